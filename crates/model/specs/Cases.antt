@@ -1,0 +1,171 @@
+-- "Litmus tests worked by hand": C1 to C10, and every fact that is stated of them. x, y are locations 0, 1, initially 0.
+use Prim.Native.Nat.{ℕ, _-_}
+use mathlib.Core.Path.{_≡_}
+use mathlib.Core.List.{List, [], _∷_, _++_}
+use lib.ListN.{length, replicate}
+use Rattle.edition.specs.declared.LocationNo.{LocationNo}
+use Rattle.table.specs.declared.Event.{Event}
+use Rattle.table.specs.declared.Table.{Table}
+use Rattle.table.specs.Events.{load, store, amo, lr, sc, fence, noEvent}
+use Rattle.prefixes.specs.Answer.{Answer, found, noneLeft, spent}
+use Rattle.model.specs.Rules.{initially, nothing, ruleSet}
+use Rattle.model.specs.Verdict.{Verdict, brokenPpo, brokenAtomicity, verdict}
+use Rattle.model.specs.Prefixes.{search, witnesses}
+
+abbrev x : ℕ
+x = 0
+
+abbrev y : ℕ
+y = 1
+
+-- an event of a kind, on a hart, at a location, with the values read and written
+abbrev access : (kind hart location read written : ℕ) → Event
+access k h l r w =
+    record { kind = k; hart = h; location = record { 0 = l }; flags = 0; addr = 0; «data» = 0; ctrl = 0; read = r; written = w }
+
+abbrev loads : (hart location read : ℕ) → Event
+loads h l r = access load h l r 0
+
+abbrev stores : (hart location written : ℕ) → Event
+stores h l w = access store h l 0 w
+
+-- a load with an address mask and a control mask
+abbrev dependentLoad : (hart location read addr ctrl : ℕ) → Event
+dependentLoad h l r a c =
+    record { kind = load; hart = h; location = record { 0 = l }; flags = 0; addr = a; «data» = 0; ctrl = c; read = r; written = 0 }
+
+-- a fence of all four bits
+abbrev fullFence : ℕ → Event
+fullFence h =
+    record { kind = fence; hart = h; location = record { 0 = 0 }; flags = 15; addr = 0; «data» = 0; ctrl = 0; read = 0; written = 0 }
+
+abbrev padded : List Event → List Event
+padded es = es ++ replicate (32 - length es) noEvent
+
+-- a test with zero initial values; stated: the mask of final values, final: that of x
+abbrev test : (harts locations stated final : ℕ) → List Event → Table
+test h l s f es =
+    record { harts = h; locations = l; count = length es; stated = s; initial = replicate 8 0; events = padded es; finals = f ∷ replicate 7 0 }
+
+abbrev plainTest : (harts locations : ℕ) → List Event → Table
+plainTest h l es = test h l 0 0 es
+
+-- "C1: hart 0 stores x=1 (0), y=1 (1); hart 1 loads y reading 1 (2), x reading 0 (3)."
+abbrev pub c1 : Table
+c1 = plainTest 2 2 (stores 0 x 1 ∷ stores 0 y 1 ∷ loads 1 y 1 ∷ loads 1 x 0 ∷ [])
+
+-- "C2: C1 with a fence of all four bits between each hart's accesses"
+abbrev pub c2 : Table
+c2 = plainTest 2 2 (stores 0 x 1 ∷ fullFence 0 ∷ stores 0 y 1 ∷ loads 1 y 1 ∷ fullFence 1 ∷ loads 1 x 0 ∷ [])
+
+-- "C3: stores x=1 (0) then loads y reading 0 (1); stores y=1 (2) then loads x reading 0 (3)."
+abbrev pub c3 : Table
+c3 = plainTest 2 2 (stores 0 x 1 ∷ loads 0 y 0 ∷ stores 1 y 1 ∷ loads 1 x 0 ∷ [])
+
+-- "C4: one hart stores x=1, loads x reading 1." "Reading 0"
+abbrev pub c4 : (read : ℕ) → Table
+c4 r = plainTest 1 1 (stores 0 x 1 ∷ loads 0 x r ∷ [])
+
+-- "C5: AMO x reading 0 writing 1, then load reading 1."
+abbrev pub c5 : Table
+c5 = plainTest 1 1 (access amo 0 x 0 1 ∷ loads 0 x 1 ∷ [])
+
+-- "C6: hart 0 stores x=1; hart 1 loads x reading 1, then 0."
+abbrev pub c6 : Table
+c6 = plainTest 2 1 (stores 0 x 1 ∷ loads 1 x 1 ∷ loads 1 x 0 ∷ [])
+
+-- "C7: hart 0 LR x reading 0 (0), SC x=1 (1); hart 1 stores x=2 (2)." with the stated final value
+abbrev pub c7 : (final : ℕ) → Table
+c7 f = test 2 1 1 f (access lr 0 x 0 0 ∷ access sc 0 x 0 1 ∷ stores 1 x 2 ∷ [])
+
+-- "C8: LR x reading 0, store x=2, SC x=1, one hart, final 1"
+abbrev pub c8 : Table
+c8 = test 1 1 1 1 (access lr 0 x 0 0 ∷ stores 0 x 2 ∷ access sc 0 x 0 1 ∷ [])
+
+-- "C9: C1 with a full fence between the stores (so stores 0, 2; loads 3, 4)", load 4 with the masks given
+abbrev c9 : (addr ctrl : ℕ) → Table
+c9 a c = plainTest 2 2 (stores 0 x 1 ∷ fullFence 0 ∷ stores 0 y 1 ∷ loads 1 y 1 ∷ dependentLoad 1 x 0 a c ∷ [])
+
+-- the mask that names event 3
+abbrev event3 : ℕ
+event3 = 8
+
+-- "load 4 control-dependent on 3"
+abbrev pub c9control : Table
+c9control = c9 0 event3
+
+-- "Address-dependent"
+abbrev pub c9address : Table
+c9address = c9 event3 0
+
+-- "C10: one load x reading 0"
+abbrev pub c10 : Table
+c10 = plainTest 1 1 (loads 0 x 0 ∷ [])
+
+-- What is stated of a case: all its witnesses; a search's answer from a start with an allowance; the verdict for a
+-- candidate (returned list, order); the set of rules of a pair with a returned list.
+pub data Claim : Type 0 where
+  allWitnesses : Table → List (List ℕ) → Claim
+  searched : Table → List ℕ → ℕ → Answer → Claim
+  judged : Table → List ℕ → List ℕ → Verdict → Claim
+  ruled : Table → List ℕ → ℕ → ℕ → List ℕ → Claim
+
+abbrev pub Right : Claim → Type 0
+Right (allWitnesses t ws) = witnesses t ≡ ws
+Right (searched t s b r) = search t s b ≡ r
+Right (judged t rf gmo v) = verdict t rf gmo ≡ v
+Right (ruled t rf a b ks) = ruleSet t rf a b ≡ ks
+
+abbrev pub Every : List Claim → Type 0
+Every [] = Unit {0}
+Every (c ∷ cs) = Right c × Every cs
+
+-- an allowance that no case uses up
+abbrev ample : ℕ
+ample = 1000000
+
+abbrev pub worked : List Claim
+worked =
+    -- "Witnesses: 1230, 1302, 1320, 3012, 3102, 3120. First: 27 visited. After 3120: none left, 5 visited."
+    allWitnesses c1
+    ((1 ∷ 2 ∷ 3 ∷ 0 ∷ []) ∷ (1 ∷ 3 ∷ 0 ∷ 2 ∷ []) ∷ (1 ∷ 3 ∷ 2 ∷ 0 ∷ []) ∷ (3 ∷ 0 ∷ 1 ∷ 2 ∷ []) ∷ (3 ∷ 1 ∷ 0 ∷ 2 ∷ [])
+    ∷ (3 ∷ 1 ∷ 2 ∷ 0 ∷ []) ∷ [])
+    ∷ searched c1 [] ample (found (1 ∷ 2 ∷ 3 ∷ 0 ∷ []) 27)
+    ∷ searched c1 (3 ∷ 1 ∷ 2 ∷ 0 ∷ []) ample (noneLeft 5)
+    -- "None left, 18 visited."
+    ∷ allWitnesses c2 []
+    ∷ searched c2 [] ample (noneLeft 18)
+    -- "First 1230, 27 visited."
+    ∷ searched c3 [] ample (found (1 ∷ 2 ∷ 3 ∷ 0 ∷ []) 27)
+    -- "Witnesses 01 and 10. Reading 0: none left, 4 visited."
+    ∷ allWitnesses (c4 1) ((0 ∷ 1 ∷ []) ∷ (1 ∷ 0 ∷ []) ∷ [])
+    ∷ allWitnesses (c4 0) []
+    ∷ searched (c4 0) [] ample (noneLeft 4)
+    -- "Only 01. Order 10, returned list 255, 0: preserved order, pair 0, 1, rule 2 (rule 3 holds too; the lowest is named)."
+    ∷ allWitnesses c5 ((0 ∷ 1 ∷ []) ∷ [])
+    ∷ judged c5 (initially ∷ 0 ∷ []) (1 ∷ 0 ∷ []) (brokenPpo 0 1 2)
+    ∷ ruled c5 (initially ∷ 0 ∷ []) 0 1 (2 ∷ 3 ∷ [])
+    -- "None left, 15 visited."
+    ∷ allWitnesses c6 []
+    ∷ searched c6 [] ample (noneLeft 15)
+    -- "Final x=1: none left, 8 visited. Final 2: 012, 3 visited. Order 021, list 255, 254, 254: atomicity, LR 0, writer 2."
+    ∷ allWitnesses (c7 1) []
+    ∷ searched (c7 1) [] ample (noneLeft 8)
+    ∷ searched (c7 2) [] ample (found (0 ∷ 1 ∷ 2 ∷ []) 3)
+    ∷ judged (c7 1) (initially ∷ nothing ∷ nothing ∷ []) (0 ∷ 2 ∷ 1 ∷ []) (brokenAtomicity 0 2)
+    ∷ judged (c7 2) (initially ∷ nothing ∷ nothing ∷ []) (0 ∷ 2 ∷ 1 ∷ []) (brokenAtomicity 0 2)
+    -- "final 1: 012"
+    ∷ allWitnesses c8 ((0 ∷ 1 ∷ 2 ∷ []) ∷ [])
+    -- "only 4023. Address-dependent: none left, 18 visited."
+    ∷ allWitnesses c9control ((4 ∷ 0 ∷ 2 ∷ 3 ∷ []) ∷ [])
+    ∷ allWitnesses c9address []
+    ∷ searched c9address [] ample (noneLeft 18)
+    -- "0, 1 visited"
+    ∷ allWitnesses c10 ((0 ∷ []) ∷ [])
+    ∷ searched c10 [] ample (found (0 ∷ []) 1)
+    -- "C1 with allowance 26 is spent at prefix 123. Allowance 0 from the empty start is spent, 0 visited; after 3210 it is
+    -- none left, 0 visited."
+    ∷ searched c1 [] 26 (spent (1 ∷ 2 ∷ 3 ∷ []) 26)
+    ∷ searched c1 [] 0 (spent [] 0)
+    ∷ searched c1 (3 ∷ 2 ∷ 1 ∷ 0 ∷ []) 0 (noneLeft 0)
+    ∷ []

@@ -1,0 +1,43 @@
+-- "The search", of a table: prefixes, clean prefixes, their ascending list, and the answer.
+use Prim.Native.Nat.{ℕ}
+use mathlib.Core.Bool.{Bool, _&&_, _||_, not}
+use mathlib.Core.List.{List, []}
+use lib.ListN.{length}
+use lib.Dec.{eqb}
+use Rattle.lists.specs.Below.{every}
+use Rattle.lists.specs.Lists.{all, keep, distinct, before}
+use Rattle.table.specs.declared.Table.{Table}
+use Rattle.table.specs.Events.{memoryEvents, memoryCount}
+use Rattle.prefixes.specs.Listed.{listed, after}
+use Rattle.prefixes.specs.Answer.{Answer, answer}
+use Rattle.model.specs.Rules.{staticPpo}
+use Rattle.model.specs.Witness.{isMemoryEvent, witness}
+
+-- "A prefix is a list of different memory events."
+unfoldable pub isPrefix : Table → List ℕ → Bool
+isPrefix t p = all (isMemoryEvent t) p && distinct p
+
+-- every steady predecessor of e is listed, before e
+unfoldable pub predecessorsListed : Table → List ℕ → ℕ → Bool
+predecessorsListed t p e = every (t .count) (λ a. not (staticPpo t a e) || before p a e)
+
+-- "It is clean if no listed event has a steady predecessor missing or standing after it": a prefix of a linear extension
+-- of static ppo
+unfoldable pub clean : Table → List ℕ → Bool
+clean t p = isPrefix t p && all (predecessorsListed t p) p
+
+-- all nonempty clean prefixes, ascending
+unfoldable pub cleanPrefixes : Table → List (List ℕ)
+cleanPrefixes t = listed (clean t) (memoryEvents t) (memoryCount t)
+
+-- one search, of a table, from a start with an allowance
+unfoldable pub search : Table → List ℕ → ℕ → Answer
+search t s b = answer (witness t) (after s (cleanPrefixes t)) s b
+
+-- all orders of the memory events, ascending
+unfoldable pub orders : Table → List (List ℕ)
+orders t = keep (λ p. eqb (length p) (memoryCount t)) (listed distinct (memoryEvents t) (memoryCount t))
+
+-- the witnesses, ascending
+unfoldable pub witnesses : Table → List (List ℕ)
+witnesses t = keep (witness t) (orders t)

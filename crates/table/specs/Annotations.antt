@@ -1,0 +1,58 @@
+-- "The block": flags and dependency masks.
+use Prim.Native.Nat.{ℕ}
+use mathlib.Core.Bool.{Bool, _&&_, _||_}
+use Rattle.masks.specs.Bit.{bit}
+use Rattle.table.specs.declared.Event.{Event}
+use Rattle.table.specs.declared.Table.{Table}
+use Rattle.table.specs.Events.{event, memory}
+
+-- "Memory flags from bit 0: acquire-RCpc, acquire-RCsc, release-RCpc, release-RCsc."
+abbrev pub acquirePc : ℕ → Bool
+acquirePc f = bit f 0
+
+abbrev pub acquireSc : ℕ → Bool
+acquireSc f = bit f 1
+
+abbrev pub releasePc : ℕ → Bool
+releasePc f = bit f 2
+
+abbrev pub releaseSc : ℕ → Bool
+releaseSc f = bit f 3
+
+-- "Fence flags from bit 0: pr, pw, sr, sw"
+abbrev pub pr : ℕ → Bool
+pr f = bit f 0
+
+abbrev pub pw : ℕ → Bool
+pw f = bit f 1
+
+abbrev pub sr : ℕ → Bool
+sr f = bit f 2
+
+abbrev pub sw : ℕ → Bool
+sw f = bit f 3
+
+unfoldable pub flags : Table → ℕ → ℕ
+flags t e = event t e .flags
+
+-- e has an acquire annotation
+unfoldable pub acquire : Table → ℕ → Bool
+acquire t e = acquirePc (flags t e) || acquireSc (flags t e)
+
+-- e has a release annotation
+unfoldable pub release : Table → ℕ → Bool
+release t e = releasePc (flags t e) || releaseSc (flags t e)
+
+-- e has an RCsc annotation
+unfoldable pub rcsc : Table → ℕ → Bool
+rcsc t e = acquireSc (flags t e) || releaseSc (flags t e)
+
+-- "Bit k of a record's mask (bit 0 lowest) names event k, an earlier event depended on"
+unfoldable pub addressDepends : Table → ℕ → ℕ → Bool
+addressDepends t b a = bit (event t b .addr) a
+
+unfoldable pub dataDepends : Table → ℕ → ℕ → Bool
+dataDepends t b a = bit (event t b .«data») a
+
+unfoldable pub controlDepends : Table → ℕ → ℕ → Bool
+controlDepends t b a = bit (event t b .ctrl) a
