@@ -6,9 +6,13 @@ pub struct EditionOne;
 
 impl EditionOne {
     pub const NUMBER: u8 = 1;
+
     pub const HARTS: usize = 4;
+
     pub const LOCATIONS: usize = 8;
+
     pub const EVENTS: usize = 16;
+
     pub const BLOCK: usize = 512;
 
     pub fn harts() -> usize

@@ -8,8 +8,8 @@ use Rattle.lists.specs.Below.{lowest, some}
 use Rattle.lists.specs.Lists.{before}
 use Rattle.masks.specs.Bit.{bit}
 use Rattle.table.specs.declared.Table.{Table}
-use Rattle.table.specs.Events.{event, hart, location, reads, writes, sameLocation}
-use Rattle.model.specs.Rules.{initially, from, paired, ppo}
+use Rattle.table.specs.Events.{event, hart, location, reads, writes, sameLocation, paired}
+use Rattle.model.specs.Rules.{initially, from, ppo}
 use Rattle.model.specs.Returns.{returnOf, writtenValue, finalValue}
 
 -- preserved order puts a before b, and the order doesn't

@@ -6,7 +6,7 @@ use lib.ListN.{length, replicate}
 use Rattle.edition.specs.declared.LocationNo.{LocationNo}
 use Rattle.table.specs.declared.Event.{Event}
 use Rattle.table.specs.declared.Table.{Table}
-use Rattle.table.specs.Events.{load, store, amo, lr, sc, fence, noEvent}
+use Rattle.table.specs.Events.{load, store, amo, lr, sc, fence, noEvent, capacity}
 use Rattle.prefixes.specs.Answer.{Answer, found, noneLeft, spent}
 use Rattle.model.specs.Rules.{initially, nothing, ruleSet}
 use Rattle.model.specs.Verdict.{Verdict, brokenPpo, brokenAtomicity, verdict}
@@ -40,7 +40,7 @@ fullFence h =
     record { kind = fence; hart = h; location = record { 0 = 0 }; flags = 15; addr = 0; «data» = 0; ctrl = 0; read = 0; written = 0 }
 
 abbrev padded : List Event → List Event
-padded es = es ++ replicate (32 - length es) noEvent
+padded es = es ++ replicate (capacity - length es) noEvent
 
 -- a test with zero initial values; stated: the mask of final values, final: that of x
 abbrev test : (harts locations stated final : ℕ) → List Event → Table

@@ -7,7 +7,7 @@ use lib.Dec.{eqb}
 use Rattle.lists.specs.Below.{some}
 use Rattle.lists.specs.Lists.{any, kept}
 use Rattle.table.specs.declared.Table.{Table}
-use Rattle.table.specs.Events.{kind, reads, writes, memory, sameLocation, po, between, amo, lr, sc, fence, fencetso}
+use Rattle.table.specs.Events.{kind, reads, writes, memory, sameLocation, po, between, paired, amo, sc, fence, fencetso}
 use Rattle.table.specs.Annotations.{flags, acquire, release, rcsc, addressDepends, dataDepends, controlDepends, pr, pw, sr, sw}
 
 -- a returned list's entry: "a non-reader's entry .. 254"
@@ -63,12 +63,6 @@ rule6 t a b = release t b
 -- 7. "Both have an RCsc annotation."
 unfoldable pub rule7 : Table → ℕ → ℕ → Bool
 rule7 t a b = rcsc t a && rcsc t b
-
--- SC b's nearest earlier LR or SC on its hart is the LR a
-unfoldable pub paired : Table → ℕ → ℕ → Bool
-paired t a b =
-    po t a b && eqb (kind t a) lr && eqb (kind t b) sc
-    && not (some (t .count) (λ m. between t a m b && (eqb (kind t m) lr || eqb (kind t m) sc)))
 
 -- 8. "a is the LR paired with SC b."
 unfoldable pub rule8 : Table → ℕ → ℕ → Bool

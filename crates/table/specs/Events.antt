@@ -4,8 +4,8 @@ use mathlib.Core.Bool.{Bool, _&&_, _||_, not}
 use mathlib.Core.List.{List, []}
 use lib.ListN.{length, getD, replicate}
 use lib.Dec.{eqb, ltb}
-use Rattle.lists.specs.Below.{below}
-use Rattle.lists.specs.Lists.{keep, has}
+use Rattle.lists.specs.Below.{below, some}
+use Rattle.lists.specs.Lists.{keep}
 use Rattle.edition.specs.declared.LocationNo.{LocationNo}
 use Rattle.table.specs.declared.Event.{Event}
 use Rattle.table.specs.declared.Table.{Table}
@@ -40,8 +40,16 @@ readingKind k = eqb k load || eqb k amo || eqb k lr
 abbrev pub writingKind : ℕ → Bool
 writingKind k = eqb k store || eqb k amo || eqb k sc
 
+-- a memory event reads or writes
+abbrev pub memoryKind : ℕ → Bool
+memoryKind k = readingKind k || writingKind k
+
 abbrev pub fencingKind : ℕ → Bool
 fencingKind k = eqb k fence || eqb k fencetso
+
+-- the number of slots of a table
+abbrev pub capacity : ℕ
+capacity = 32
 
 -- a slot past the events: all fields zero
 abbrev pub noEvent : Event
@@ -66,7 +74,6 @@ reads t e = readingKind (kind t e)
 unfoldable pub writes : Table → ℕ → Bool
 writes t e = writingKind (kind t e)
 
--- a memory event: it reads or writes
 unfoldable pub memory : Table → ℕ → Bool
 memory t e = reads t e || writes t e
 
@@ -89,3 +96,11 @@ memoryEvents t = keep (memory t) (below (t .count))
 -- "M (the number of memory events)"
 unfoldable pub memoryCount : Table → ℕ
 memoryCount t = length (memoryEvents t)
+
+-- m is an LR or SC strictly between a and b
+unfoldable pub reserves : Table → ℕ → ℕ → ℕ → Bool
+reserves t a b m = between t a m b && (eqb (kind t m) lr || eqb (kind t m) sc)
+
+-- LR a is paired with SC b: it is b's nearest earlier LR or SC on its hart
+unfoldable pub paired : Table → ℕ → ℕ → Bool
+paired t a b = po t a b && eqb (kind t a) lr && eqb (kind t b) sc && not (some (t .count) (reserves t a b))

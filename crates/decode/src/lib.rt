@@ -1,0 +1,1 @@
+// The table that a block's bytes stand for.

@@ -1,0 +1,27 @@
+-- "When the bench declines a table": a refusal is that of the first line that holds, in the stated order.
+use Prim.Native.Nat.{ℕ}
+use mathlib.Core.Bool.{Bool, true, false}
+use mathlib.Core.List.{List, [], _∷_}
+use Rattle.lists.specs.Below.{lowest, some}
+
+-- no refusal; by the number of a line; by a line that names a record
+pub data Refused : Type 0 where
+  accepted : Refused
+  byLine : ℕ → Refused
+  byRecord : ℕ → ℕ → Refused
+
+-- a line of the table of refusals: of the whole, or of each record
+pub data Line : Type 0 where
+  whole : ℕ → Bool → Line
+  record-of : ℕ → (ℕ → Bool) → Line
+
+abbrev pub refusedIf : Bool → Refused → Refused → Refused
+refusedIf true r rest = r
+refusedIf false r rest = rest
+
+-- "Exactly the lowest number whose line holds is given, or else none; within 7 to 10, its lowest record is named." The
+-- lines stand in the order of their numbers; n is the number of records.
+unfoldable pub firstLine : ℕ → List Line → Refused
+firstLine n [] = accepted
+firstLine n (whole k b ∷ ls) = refusedIf b (byLine k) (firstLine n ls)
+firstLine n (record-of k f ∷ ls) = refusedIf (some n f) (byRecord k (lowest n f)) (firstLine n ls)

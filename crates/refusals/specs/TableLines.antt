@@ -1,0 +1,116 @@
+-- "When the bench declines a table": lines 5 to 11, each a test of the table. `extra` is what line 6 says of bytes that are
+-- no field of the table.
+use Prim.Native.Nat.{ℕ, _^_}
+use mathlib.Core.Bool.{Bool, _&&_, _||_, not}
+use mathlib.Core.List.{List, [], _∷_}
+use lib.ListN.{getD}
+use lib.Dec.{eqb, ltb, leb}
+use Rattle.lists.specs.Below.{some}
+use Rattle.masks.specs.Bit.{bit}
+use Rattle.edition.specs.Limits.{maxHarts, maxLocations, maxEvents}
+use Rattle.table.specs.declared.Event.{Event}
+use Rattle.table.specs.declared.Table.{Table}
+use Rattle.table.specs.Events.{capacity, event, kind, reads, writes, memory, sameLocation, po, paired, readingKind, writingKind, fencingKind, store, sc, fencetso}
+use Rattle.table.specs.Annotations.{acquirePc, acquireSc, releasePc, releaseSc, flags, acquire, release}
+use Rattle.refusals.specs.Lines.{Line, whole, record-of}
+
+-- n is not one of 1 .. most
+abbrev pub outside : ℕ → ℕ → Bool
+outside n most = eqb n 0 || ltb most n
+
+-- "the final mask names a location not in the test"
+unfoldable pub statesMissing : Table → Bool
+statesMissing t = some maxLocations (λ x. bit (t .stated) x && leb (t .locations) x)
+
+-- 5: "harts, locations or events out of range, or the final mask names a location not in the test"
+unfoldable pub line5 : Table → Bool
+line5 t = outside (t .harts) maxHarts || outside (t .locations) maxLocations || outside (t .count) maxEvents || statesMissing t
+
+-- "initial values of locations not in the test"
+unfoldable pub initialNotZero : Table → ℕ → Bool
+initialNotZero t x = leb (t .locations) x && not (eqb (getD (t .initial) x 0) 0)
+
+-- "final values not stated"
+unfoldable pub finalNotZero : Table → ℕ → Bool
+finalNotZero t x = not (bit (t .stated) x) && not (eqb (getD (t .finals) x 0) 0)
+
+-- every field of the record is zero
+unfoldable pub blank : Event → Bool
+blank e =
+    eqb (e .kind) 0 && eqb (e .hart) 0 && eqb (e .location .0) 0 && eqb (e .flags) 0 && eqb (e .addr) 0 && eqb (e .«data») 0
+    && eqb (e .ctrl) 0 && eqb (e .read) 0 && eqb (e .written) 0
+
+-- "records past the events"
+unfoldable pub pastNotBlank : Table → ℕ → Bool
+pastNotBlank t k = leb (t .count) k && not (blank (event t k))
+
+-- 6, of the table: a value or record that the test doesn't use isn't zero
+unfoldable pub line6 : Table → Bool
+line6 t = some maxLocations (initialNotZero t) || some maxLocations (finalNotZero t) || some capacity (pastNotBlank t)
+
+-- 7: "kind, hart, location or flags out of range"
+unfoldable pub fieldOutOfRange : Table → Event → Bool
+fieldOutOfRange t e = outside (e .kind) fencetso || leb (t .harts) (e .hart) || leb (t .locations) (e .location .0) || leb 16 (e .flags)
+
+-- "a non-reader with a value read or a non-writer with a value written that isn't zero"
+unfoldable pub valueNotZero : Event → Bool
+valueNotZero e =
+    not (readingKind (e .kind)) && not (eqb (e .read) 0) || not (writingKind (e .kind)) && not (eqb (e .written) 0)
+
+-- "a fence with location or mask not zero; flags on fence.tso"
+unfoldable pub fenceNotZero : Event → Bool
+fenceNotZero e =
+    fencingKind (e .kind)
+    && (not (eqb (e .location .0) 0) || not (eqb (e .addr) 0) || not (eqb (e .«data») 0) || not (eqb (e .ctrl) 0))
+    || eqb (e .kind) fencetso && not (eqb (e .flags) 0)
+
+unfoldable pub line7 : Table → ℕ → Bool
+line7 t k = fieldOutOfRange t (event t k) || valueNotZero (event t k) || fenceNotZero (event t k)
+
+-- 8: "both acquires or both releases at once"
+unfoldable pub bothAtOnce : Table → ℕ → Bool
+bothAtOnce t k = acquirePc (flags t k) && acquireSc (flags t k) || releasePc (flags t k) && releaseSc (flags t k)
+
+-- "a reader with release and no acquire"
+unfoldable pub readerReleases : Table → ℕ → Bool
+readerReleases t k = reads t k && release t k && not (acquire t k)
+
+-- "a plain store or SC with acquire and no release"
+unfoldable pub writerAcquires : Table → ℕ → Bool
+writerAcquires t k = (eqb (kind t k) store || eqb (kind t k) sc) && acquire t k && not (release t k)
+
+unfoldable pub line8 : Table → ℕ → Bool
+line8 t k = memory t k && (bothAtOnce t k || readerReleases t k || writerAcquires t k)
+
+-- one of the three masks of k names m
+unfoldable pub names : Table → ℕ → ℕ → Bool
+names t k m = bit (event t k .addr) m || bit (event t k .«data») m || bit (event t k .ctrl) m
+
+-- 9: "a mask names an event that isn't earlier on the same hart, or is a plain store or a fence"
+unfoldable pub namesWrongly : Table → ℕ → ℕ → Bool
+namesWrongly t k m = names t k m && (not (po t m k) || eqb (kind t m) store || fencingKind (kind t m))
+
+-- "a data mask on a non-writer"
+unfoldable pub dataOfNonWriter : Table → ℕ → Bool
+dataOfNonWriter t k = not (writes t k) && not (eqb (event t k .«data») 0)
+
+-- "a control mask with a bit that some later memory event of that hart lacks": j is such an event
+unfoldable pub lacksControl : Table → ℕ → ℕ → Bool
+lacksControl t k j = po t k j && memory t j && some capacity (λ m. bit (event t k .ctrl) m && not (bit (event t j .ctrl) m))
+
+unfoldable pub line9 : Table → ℕ → Bool
+line9 t k = some capacity (namesWrongly t k) || dataOfNonWriter t k || some (t .count) (lacksControl t k)
+
+-- 10: "an SC whose nearest earlier LR or SC on its hart isn't an LR to the same location"
+unfoldable pub line10 : Table → ℕ → Bool
+line10 t k = eqb (kind t k) sc && not (some (t .count) (λ l. paired t l k && sameLocation t l k))
+
+-- 11: "no memory event"
+unfoldable pub line11 : Table → Bool
+line11 t = not (some (t .count) (memory t))
+
+-- the lines in their order
+unfoldable pub tableLines : Bool → Table → List Line
+tableLines extra t =
+    whole 5 (line5 t) ∷ whole 6 (extra || line6 t) ∷ record-of 7 (line7 t) ∷ record-of 8 (line8 t) ∷ record-of 9 (line9 t)
+    ∷ record-of 10 (line10 t) ∷ whole 11 (line11 t) ∷ []

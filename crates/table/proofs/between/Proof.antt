@@ -1,0 +1,15 @@
+use borrow.Author.Needs.{needs}
+use Rattle.table.proofs.between.Statement.{statement}
+use Rattle.table.proofs.between.Tie as tie
+
+program-order-requires : tie.Need-program-order-requires
+program-order-requires c κs = search needs
+
+program-order-requires-2 : tie.Need-program-order-requires-2
+program-order-requires-2 c κs = search needs
+
+returns : tie.Need-returns
+returns c = cc
+
+pub between-spec : {M : Type 1} → statement M
+between-spec = tie.close (tie.spec program-order-requires program-order-requires-2 returns)

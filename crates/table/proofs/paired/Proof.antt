@@ -1,0 +1,67 @@
+use Prim.Native.Nat.{ℕ}
+use mathlib.Core.Path.{_≡_, ap, _∙_}
+use mathlib.Core.Bool.{Bool, true, false, _&&_, not}
+use lib.Dec.{eqb}
+use Rattle.lists.proofs.BoolLaws.{and-taken, and-left}
+use Rattle.table.specs.declared.Table.{Table}
+use Rattle.table.specs.Events.{paired, po, hart, kind, event, lr, sc}
+use borrow.Author.Needs.{needs}
+use Rattle.table.proofs.paired.Statement.{statement}
+use Rattle.table.proofs.paired.Tie as tie
+
+-- what the code tests first
+abbrev lrBeforeSc : Table → ℕ → ℕ → Bool
+lrBeforeSc t a b = po t a b && eqb (kind t a) lr && eqb (kind t b) sc
+
+cast-x : tie.Need-cast-x
+cast-x c = search needs
+
+mul-x : tie.Need-mul-x
+mul-x c = search needs
+
+element-copy-out-x : tie.Need-element-copy-out-x
+element-copy-out-x c = search needs
+
+cast-y : tie.Need-cast-y
+cast-y c = search needs
+
+mul-y : tie.Need-mul-y
+mul-y c = search needs
+
+element-copy-out-y : tie.Need-element-copy-out-y
+element-copy-out-y c = search needs
+
+program-order-requires : tie.Need-program-order-requires
+program-order-requires c κs = search needs
+
+some-reserves-requires : tie.Need-some-reserves-requires
+some-reserves-requires c κs = search needs
+
+returns : tie.Need-returns
+unfolding paired po hart kind event
+returns c =
+    let v = c .before .before .before .before .before .before .before .before .before .args in
+    let e : lrBeforeSc (v .t1) (v .a .0) (v .b .0) ≡ true = cc in
+    ap not (c .some-reserves .ensures) ∙ and-taken _ _ e
+
+returns-2 : tie.Need-returns-2
+unfolding paired po hart kind event
+returns-2 c =
+    let v = c .before .before .before .before .before .before .before .before .args in
+    let e : lrBeforeSc (v .t1) (v .a .0) (v .b .0) ≡ false = cc in
+    and-left _ _ e
+
+pub paired-spec : {M : Type 1} → statement M
+paired-spec =
+    tie.close
+    (tie.spec
+    cast-x
+    mul-x
+    element-copy-out-x
+    cast-y
+    mul-y
+    element-copy-out-y
+    program-order-requires
+    some-reserves-requires
+    returns
+    returns-2)
