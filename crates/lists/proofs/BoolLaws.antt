@@ -1,6 +1,6 @@
--- Laws of Bool.
-use mathlib.Core.Path.{_≡_, refl, sym, ap, _∙_}
-use mathlib.Core.Bool.{Bool, true, false, _&&_, _||_, not, true≢false, false≢true}
+-- Laws of tests.
+use mathlib.Core.Path.{_≡_, refl, sym}
+use mathlib.Core.Bool.{Bool, true, false, _&&_, _||_, not, xor, true≢false, false≢true}
 
 -- a test that passed drops out of a conjunction
 pub and-taken : (a b : Bool) → a ≡ true → b ≡ (a && b)
@@ -21,3 +21,51 @@ or-taken false b h = absurd (false≢true h)
 pub or-left : (a b : Bool) → a ≡ false → b ≡ (a || b)
 or-left true b h = absurd (true≢false h)
 or-left false b h = refl
+
+-- the left side of a conjunction that holds
+pub and-l : (s t : Bool) → (s && t) ≡ true → s ≡ true
+and-l true t h = refl
+and-l false t h = h
+
+-- the right side of a conjunction that holds
+pub and-r : (s t : Bool) → (s && t) ≡ true → t ≡ true
+and-r true t h = h
+and-r false t h = absurd (false≢true h)
+
+-- a conjunction with what follows adds nothing
+pub and-within : (s t : Bool) → (s ≡ true → t ≡ true) → (s && t) ≡ s
+and-within true t f = f refl
+and-within false t f = refl
+
+-- tests that imply each other are the same
+pub bool-ext : (s t : Bool) → (s ≡ true → t ≡ true) → (t ≡ true → s ≡ true) → s ≡ t
+bool-ext true t f g = sym (f refl)
+bool-ext false true f g = g refl
+bool-ext false false f g = refl
+
+-- a test does not differ from itself
+pub xor-self : (s : Bool) → xor s s ≡ false
+unfolding xor
+xor-self true = refl
+xor-self false = refl
+
+-- tests that do not differ are the same
+pub xor-none : (s t : Bool) → xor s t ≡ false → s ≡ t
+unfolding xor
+xor-none true true e = refl
+xor-none true false e = e
+xor-none false true e = sym e
+xor-none false false e = refl
+
+-- a test differs from false where it holds
+pub xor-false : (s : Bool) → xor s false ≡ s
+unfolding xor
+xor-false true = refl
+xor-false false = refl
+
+-- a conjunction differs from its left side where the right one fails
+pub xor-and : (s t : Bool) → xor (s && t) s ≡ (s && not t)
+unfolding xor
+xor-and true true = refl
+xor-and true false = refl
+xor-and false t = refl

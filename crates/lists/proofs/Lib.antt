@@ -1,2 +1,5 @@
 pub mod BoolLaws
 pub mod ScanLaws
+pub mod SomeLaws
+pub mod ListLaws
+pub mod AscendingLaws

@@ -1,1 +1,37 @@
-// Laws of masks come here.
+// Masks of 32 bits: bit 0 is the lowest.
+ghost use Prim.Native.Nat.{_<_, _^_};
+ghost use mathlib.Core.Path.{_≡_};
+ghost use lib.Dec.{eqb};
+ghost use lib.Bits.{bitAnd};
+ghost use lib.Count.{trailingZeros};
+ghost use Rattle.masks.specs.Bit.{bit};
+
+// The mask of bit `e` alone.
+pub fn one(e: u32) -> u32
+    requires { ⌜ e < 32 ⌝ }
+    ensures { λ r. ⌜ r ≡ 2 ^ e ⌝ }
+{
+    1 << e
+}
+
+// Bit `k` of `m` is set.
+pub fn has(m: u32, k: u32) -> bool
+    requires { ⌜ k < 32 ⌝ }
+    ensures { λ r. ⌜ r ≡ bit m k ⌝ }
+{
+    (m >> k) % 2 == 1
+}
+
+// The lowest bit that is set in `m`; 32 where none is.
+pub fn lowest_set(m: u32) -> u32
+    ensures { λ r. ⌜ r ≡ trailingZeros 32 m ⌝ }
+{
+    u32::trailing_zeros(m)
+}
+
+// Every bit of `a` is in `b`.
+pub fn within(a: u32, b: u32) -> bool
+    ensures { λ r. ⌜ r ≡ eqb (bitAnd a b) a ⌝ }
+{
+    (a & b) == a
+}

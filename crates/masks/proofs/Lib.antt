@@ -1,0 +1,4 @@
+pub mod BitLaws
+pub mod PowerLaws
+pub mod SubsetLaws
+pub mod MaskOfLaws

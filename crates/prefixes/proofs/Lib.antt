@@ -1,0 +1,3 @@
+pub mod ListedLaws
+pub mod AnswerLaws
+pub mod WalkLaws
