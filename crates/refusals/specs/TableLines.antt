@@ -18,9 +18,13 @@ use Rattle.refusals.specs.Lines.{Line, whole, record-of}
 abbrev pub outside : ℕ → ℕ → Bool
 outside n most = eqb n 0 || ltb most n
 
+-- x has a stated final value and isn't in the test
+unfoldable pub missing : Table → ℕ → Bool
+missing t x = bit (t .stated) x && leb (t .locations) x
+
 -- "the final mask names a location not in the test"
 unfoldable pub statesMissing : Table → Bool
-statesMissing t = some maxLocations (λ x. bit (t .stated) x && leb (t .locations) x)
+statesMissing t = some maxLocations (missing t)
 
 -- 5: "harts, locations or events out of range, or the final mask names a location not in the test"
 unfoldable pub line5 : Table → Bool
@@ -101,16 +105,23 @@ lacksControl t k j = po t k j && memory t j && some capacity (λ m. bit (event t
 unfoldable pub line9 : Table → ℕ → Bool
 line9 t k = some capacity (namesWrongly t k) || dataOfNonWriter t k || some (t .count) (lacksControl t k)
 
+-- l is an LR paired with k, to the same location
+unfoldable pub pairedHere : Table → ℕ → ℕ → Bool
+pairedHere t k l = paired t l k && sameLocation t l k
+
 -- 10: "an SC whose nearest earlier LR or SC on its hart isn't an LR to the same location"
 unfoldable pub line10 : Table → ℕ → Bool
-line10 t k = eqb (kind t k) sc && not (some (t .count) (λ l. paired t l k && sameLocation t l k))
+line10 t k = eqb (kind t k) sc && not (some (t .count) (pairedHere t k))
 
 -- 11: "no memory event"
 unfoldable pub line11 : Table → Bool
 line11 t = not (some (t .count) (memory t))
 
--- the lines in their order
+-- lines 7 to 11
+unfoldable pub recordLines : Table → List Line
+recordLines t =
+    record-of 7 (line7 t) ∷ record-of 8 (line8 t) ∷ record-of 9 (line9 t) ∷ record-of 10 (line10 t) ∷ whole 11 (line11 t) ∷ []
+
+-- lines 5 to 11, in their order
 unfoldable pub tableLines : Bool → Table → List Line
-tableLines extra t =
-    whole 5 (line5 t) ∷ whole 6 (extra || line6 t) ∷ record-of 7 (line7 t) ∷ record-of 8 (line8 t) ∷ record-of 9 (line9 t)
-    ∷ record-of 10 (line10 t) ∷ whole 11 (line11 t) ∷ []
+tableLines extra t = whole 5 (line5 t) ∷ whole 6 (extra || line6 t) ∷ recordLines t

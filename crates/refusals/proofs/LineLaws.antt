@@ -1,0 +1,46 @@
+-- The first line that holds, told line by line; and what a table that no line refuses has.
+use Prim.Native.Nat.{ℕ, _≤_, _<_}
+use mathlib.Core.Path.{_≡_, refl, sym, ap, _∙_}
+use mathlib.Core.Bool.{Bool, true, false}
+use mathlib.Core.List.{List, [], _∷_}
+use native.Mathlib.Omega.{arith}
+use borrow.Author.Tests.{lt-ltb, le-ltb}
+use lib.Dec.{ltb}
+use Rattle.lists.specs.Below.{lowest, some}
+use Rattle.refusals.specs.Lines.{Refused, accepted, byLine, byRecord, Line, whole, record-of, refusedIf, firstLine}
+
+-- no line is left
+pub none-here : (n : ℕ) → accepted ≡ firstLine n []
+unfolding firstLine
+none-here n = refl
+
+-- a line of the whole holds
+pub whole-here : (n k : ℕ) (b : Bool) (ls : List Line) → b ≡ true → byLine k ≡ firstLine n (whole k b ∷ ls)
+unfolding firstLine
+whole-here n k b ls h = sym (ap (λ (x : Bool). refusedIf x (byLine k) (firstLine n ls)) h)
+
+-- it doesn't: the next line decides
+pub whole-next : (n k : ℕ) (b : Bool) (ls : List Line) (r : Refused) → b ≡ false → r ≡ firstLine n ls → r ≡ firstLine n (whole k b ∷ ls)
+unfolding firstLine
+whole-next n k b ls r h e = e ∙ sym (ap (λ (x : Bool). refusedIf x (byLine k) (firstLine n ls)) h)
+
+-- a line of the records holds: i is the lowest record
+pub record-here : (n k : ℕ) (f : ℕ → Bool) (ls : List Line) (i : ℕ) → i ≡ lowest n f → i < n → byRecord k i ≡ firstLine n (record-of k f ∷ ls)
+unfolding firstLine
+record-here n k f ls i e l =
+    let h : some n f ≡ true = ap (λ (j : ℕ). ltb j n) (sym e) ∙ lt-ltb i n l in
+    ap (byRecord k) e ∙ sym (ap (λ (x : Bool). refusedIf x (byRecord k (lowest n f)) (firstLine n ls)) h)
+
+-- it doesn't: the next line decides
+pub record-next : (n k : ℕ) (f : ℕ → Bool) (ls : List Line) (i : ℕ) (r : Refused) → i ≡ lowest n f → n ≤ i → r ≡ firstLine n ls
+    → r ≡ firstLine n (record-of k f ∷ ls)
+unfolding firstLine
+record-next n k f ls i r e l h =
+    let q : some n f ≡ false = ap (λ (j : ℕ). ltb j n) (sym e) ∙ le-ltb i n l in
+    h ∙ sym (ap (λ (x : Bool). refusedIf x (byRecord k (lowest n f)) (firstLine n ls)) q)
+
+-- no line refuses: the first doesn't hold, and no later one refuses
+pub whole-off : (n k : ℕ) (b : Bool) (ls : List Line) → firstLine n (whole k b ∷ ls) ≡ accepted → (b ≡ false) × (firstLine n ls ≡ accepted)
+unfolding firstLine
+whole-off n k true ls h = let z : _≡_ {A = ℕ} 0 1 = cc in absurd (omega arith)
+whole-off n k false ls h = (refl, h)
