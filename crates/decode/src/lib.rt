@@ -1,1 +1,189 @@
 // The table that a block's bytes stand for.
+use edition::EditionOne;
+use edition::LocationNo;
+use table::CAPACITY;
+use table::Event;
+use table::Table;
+ghost use Prim.Native.Nat.{ℕ, _+_, _*_, _≤_, _<_};
+ghost use mathlib.Core.Path.{_≡_};
+ghost use lib.ListN.{length};
+ghost use Rattle.lists.specs.Filled.{upTo};
+ghost use Rattle.edition.specs.Limits.{blockLength, maxLocations};
+ghost use Rattle.table.specs.Events.{noEvent, capacity};
+ghost use Rattle.decode.specs.Layout.{byteAt, wordAt, storedCheck};
+ghost use Rattle.decode.specs.Decoded.{recordFrom, eventAt, decoded};
+
+// Where the parts of a block stand.
+struct At;
+
+impl At {
+    const HARTS: usize = 5;
+
+    const LOCATIONS: usize = 6;
+
+    const EVENTS: usize = 7;
+
+    const STATED: usize = 8;
+
+    const INITIAL: usize = 16;
+
+    const RECORDS: usize = 32;
+
+    const FINALS: usize = 288;
+
+    const CHECK: usize = 508;
+}
+
+// Where the fields of a record stand, counted from its start.
+struct Field;
+
+impl Field {
+    const KIND: usize = 0;
+
+    const HART: usize = 1;
+
+    const LOCATION: usize = 2;
+
+    const FLAGS: usize = 3;
+
+    const ADDR: usize = 4;
+
+    const DATA: usize = 6;
+
+    const CTRL: usize = 8;
+
+    const READ: usize = 10;
+
+    const WRITTEN: usize = 12;
+}
+
+// Lengths in bytes.
+const WORD: usize = 2;
+
+const RECORD: usize = 16;
+
+// How many numbers there are of one byte, and of two.
+const BYTES: u16 = 256;
+
+const WORDS: u32 = 65536;
+
+fn byte_at(s: &[u8], at: usize) -> u8
+    requires { ⌜ at < length (now s) ⌝ }
+    ensures { λ r. ⌜ r ≡ byteAt (now (s .entry)) at ⌝ }
+{
+    s[at]
+}
+
+// The number of two bytes, the low one first.
+fn word_at(s: &[u8], at: usize) -> u16
+    requires { ⌜ at + 1 < length (now s) ⌝ }
+    ensures { λ r. ⌜ r ≡ wordAt (now (s .entry)) at ⌝ }
+{
+    byte_at(s, at) as u16 + BYTES * byte_at(s, at + 1) as u16
+}
+
+// A mask of a table is wider than a mask of a block.
+fn mask_at(s: &[u8], at: usize) -> u32
+    requires { ⌜ at + 1 < length (now s) ⌝ }
+    ensures { λ r. ⌜ r ≡ wordAt (now (s .entry)) at ⌝ }
+{
+    word_at(s, at) as u32
+}
+
+// The record whose first byte is at `at`.
+fn record_at(s: &[u8], at: usize) -> Event
+    requires { do ⌜ at + (← ⟦RECORD⟧) ≤ length (now s) ⌝ }
+    ensures { λ r. ⌜ r ≡ recordFrom (now (s .entry)) at ⌝ }
+{
+    Event {
+        kind: byte_at(s, at + Field::KIND),
+        hart: byte_at(s, at + Field::HART),
+        location: LocationNo(byte_at(s, at + Field::LOCATION)),
+        flags: byte_at(s, at + Field::FLAGS),
+        addr: mask_at(s, at + Field::ADDR),
+        data: mask_at(s, at + Field::DATA),
+        ctrl: mask_at(s, at + Field::CTRL),
+        read: word_at(s, at + Field::READ),
+        written: word_at(s, at + Field::WRITTEN),
+    }
+}
+
+// A slot past the block's records.
+fn no_event() -> Event
+    ensures { λ r. ⌜ r ≡ noEvent ⌝ }
+{
+    Event {
+        kind: 0,
+        hart: 0,
+        location: LocationNo(0),
+        flags: 0,
+        addr: 0,
+        data: 0,
+        ctrl: 0,
+        read: 0,
+        written: 0,
+    }
+}
+
+// Slot `k` of the table.
+fn event_at(s: &[u8], k: usize) -> Event
+    requires { ⌜ (length (now s) ≡ blockLength) × (k < capacity) ⌝ }
+    ensures { λ r. ⌜ r ≡ eventAt (now (s .entry)) k ⌝ }
+{
+    if k < EditionOne::EVENTS {
+        record_at(s, At::RECORDS + RECORD * k)
+    } else {
+        no_event()
+    }
+}
+
+fn events(s: &[u8]) -> [Event; CAPACITY]
+    requires { ⌜ length (now s) ≡ blockLength ⌝ }
+    ensures { λ r. ⌜ r ≡ upTo capacity (eventAt (now (s .entry))) ⌝ }
+{
+    let mut list = [no_event(); CAPACITY];
+    let mut k: usize = 0;
+    while k < CAPACITY {
+        list[k] = event_at(s, k);
+        k += 1;
+    }
+    list
+}
+
+// One value for each location, from `at` on.
+fn values(s: &[u8], at: usize) -> [u16; EditionOne::LOCATIONS]
+    requires { ⌜ at + 2 * maxLocations ≤ length (now s) ⌝ }
+    ensures { λ r. ⌜ r ≡ upTo maxLocations (λ (x : ℕ). wordAt (now (s .entry)) (at + 2 * x)) ⌝ }
+{
+    let mut list = [0u16; EditionOne::LOCATIONS];
+    let mut x: usize = 0;
+    while x < EditionOne::LOCATIONS {
+        list[x] = word_at(s, at + WORD * x);
+        x += 1;
+    }
+    list
+}
+
+// The check that the block states.
+pub fn stored_check(s: &[u8]) -> u32
+    requires { ⌜ length (now s) ≡ blockLength ⌝ }
+    ensures { λ r. ⌜ r ≡ storedCheck (now (s .entry)) ⌝ }
+{
+    word_at(s, At::CHECK) as u32 + WORDS * word_at(s, At::CHECK + WORD) as u32
+}
+
+// Any bytes give a table. Whether it is a good one is for the refusals to say.
+pub fn decode(s: &[u8]) -> Table
+    requires { ⌜ length (now s) ≡ blockLength ⌝ }
+    ensures { λ r. ⌜ r ≡ decoded (now (s .entry)) ⌝ }
+{
+    Table {
+        harts: byte_at(s, At::HARTS),
+        locations: byte_at(s, At::LOCATIONS),
+        count: byte_at(s, At::EVENTS),
+        stated: byte_at(s, At::STATED),
+        initial: values(s, At::INITIAL),
+        events: events(s),
+        finals: values(s, At::FINALS),
+    }
+}

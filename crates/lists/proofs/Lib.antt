@@ -3,3 +3,4 @@ pub mod ScanLaws
 pub mod SomeLaws
 pub mod ListLaws
 pub mod AscendingLaws
+pub mod FilledLaws

@@ -1,7 +1,8 @@
 // Lines 9 and 10: tests of a record against the other records of its hart.
 use edition::EventNo;
-use table::{Event, Kind, Table};
-
+use table::Event;
+use table::Kind;
+use table::Table;
 ghost use Prim.Native.Nat.{_≤_, _<_};
 ghost use mathlib.Core.Path.{_≡_};
 ghost use mathlib.Core.Bool.{_&&_, _||_, not};
@@ -27,7 +28,11 @@ fn some_names_wrongly(t: Table, k: EventNo) -> bool
     let mut m: u8 = 0;
     while (m as usize) < table::CAPACITY {
         let z = t.events[m as usize];
-        if names(e, m) & (!table::program_order(EventNo(m), z, k, e) | (z.kind == Kind::STORE) | table::fences(z)) {
+        if names(e, m)
+            & (!table::program_order(EventNo(m), z, k, e)
+                | (z.kind == Kind::STORE)
+                | table::fences(z))
+        {
             return true;
         }
         m += 1;

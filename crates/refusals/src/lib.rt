@@ -2,9 +2,9 @@
 use edition::EventNo;
 use table::Table;
 
+mod dependencies;
 mod ranges;
 mod records;
-mod dependencies;
 
 ghost use Prim.Native.Nat.{_≤_};
 ghost use mathlib.Core.Path.{_≡_};

@@ -1,7 +1,8 @@
 // Lines 5, 6 and 11: tests of the whole table.
-use edition::{EditionOne, EventNo};
-use table::{Event, Table};
-
+use edition::EditionOne;
+use edition::EventNo;
+use table::Event;
+use table::Table;
 ghost use Prim.Native.Nat.{_≤_, _<_};
 ghost use mathlib.Core.Path.{_≡_};
 ghost use mathlib.Core.Bool.{_&&_, _||_, not};

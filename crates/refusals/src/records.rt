@@ -1,7 +1,8 @@
 // Lines 7 and 8: tests of one record's fields.
 use edition::EventNo;
-use table::{Event, Kind, Table};
-
+use table::Event;
+use table::Kind;
+use table::Table;
 ghost use Prim.Native.Nat.{_<_};
 ghost use mathlib.Core.Path.{_≡_};
 ghost use mathlib.Core.Bool.{_&&_, _||_, not};
@@ -70,5 +71,8 @@ pub fn line8(t: Table, k: EventNo) -> bool
     let acquire = acquires(e.flags);
     let release = releases(e.flags);
     let writer = (e.kind == Kind::STORE) | (e.kind == Kind::SC);
-    table::memory(e) & (both_at_once(e.flags) | (table::reads(e) & release & !acquire) | (writer & acquire & !release))
+    table::memory(e)
+        & (both_at_once(e.flags)
+            | (table::reads(e) & release & !acquire)
+            | (writer & acquire & !release))
 }

@@ -1,0 +1,25 @@
+use borrow.Author.Tests.{ne-eqb}
+use mathlib.Core.Path.{ap}
+use mathlib.Core.Bool.{not}
+use Rattle.refusals.proofs.LineLaws.{whole-here}
+use Rattle.block.proofs.ReadingLaws.{reads-refused}
+use Rattle.block.specs.Reading.{readRefusal, readingLines}
+use borrow.Author.Needs.{needs}
+use Rattle.block.proofs.read.Statement.{statement}
+use Rattle.block.proofs.read.Tie as tie
+
+refused-requires : tie.Need-refused-requires
+refused-requires c κs = search needs
+
+returns : tie.Need-returns
+unfolding readRefusal readingLines
+returns c = reads-refused _ 1 _ _ (whole-here _ _ _ _ (ap not (ne-eqb _ _ (c .before .if1 .taken)))) (c .refused .ensures)
+
+read-whole-requires : tie.Need-read-whole-requires
+read-whole-requires c κs = search needs
+
+returns-2 : tie.Need-returns-2
+returns-2 c = search needs
+
+pub read-spec : {M : Type 1} → statement M
+read-spec = tie.close (tie.spec refused-requires returns read-whole-requires returns-2)

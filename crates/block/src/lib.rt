@@ -1,0 +1,113 @@
+// Reading a block: refusals 1 to 11, and the table.
+use edition::EditionOne;
+use refusals::Refusal;
+use table::Table;
+
+mod zeros;
+
+ghost use Prim.Native.Nat.{_+_};
+ghost use mathlib.Core.Path.{_≡_};
+ghost use lib.ListN.{length};
+ghost use Rattle.edition.specs.Limits.{blockLength};
+ghost use Rattle.refusals.specs.Lines.{byLine};
+ghost use Rattle.refusals.specs.Refusals.{refusalOf};
+ghost use Rattle.block.specs.Reading.{noTable, tableIf, line3, readRefusal, readTable};
+
+pub struct Reading {
+    pub refusal: Refusal,
+    pub table: Table,
+}
+
+const MARKER: [u8; 4] = [0x52, 0x56, 0x54, 0x31];
+
+const EDITION_AT: usize = 4;
+
+// The blank table, which a refusal gives.
+pub fn no_table() -> Table
+    ensures { λ r. ⌜ r ≡ noTable ⌝ }
+{
+    let blank = table::Event {
+        kind: 0,
+        hart: 0,
+        location: edition::LocationNo(0),
+        flags: 0,
+        addr: 0,
+        data: 0,
+        ctrl: 0,
+        read: 0,
+        written: 0,
+    };
+    Table {
+        harts: 0,
+        locations: 0,
+        count: 0,
+        stated: 0,
+        initial: [0; 8],
+        events: [blank; 32],
+        finals: [0; 8],
+    }
+}
+
+fn refused(number: u8) -> Reading
+    ensures { λ r. ⌜ (refusalOf (r .refusal) ≡ byLine number) × (r .table ≡ noTable) ⌝ }
+{
+    Reading {
+        refusal: Refusal::Line(number),
+        table: no_table(),
+    }
+}
+
+// The table if there is no refusal.
+fn table_if(refusal: Refusal, t: Table) -> Reading
+    ensures { λ r. ⌜ (refusalOf (r .refusal) ≡ refusalOf refusal) × (r .table ≡ tableIf (refusalOf refusal) t) ⌝ }
+{
+    match refusal {
+        Refusal::None => Reading {
+            refusal: Refusal::None,
+            table: t,
+        },
+        Refusal::Line(n) => Reading {
+            refusal: Refusal::Line(n),
+            table: no_table(),
+        },
+        Refusal::Record(n, k) => Reading {
+            refusal: Refusal::Record(n, k),
+            table: no_table(),
+        },
+    }
+}
+
+fn marker_wrong(s: &[u8]) -> bool
+    requires { ⌜ length (now s) ≡ blockLength ⌝ }
+    ensures { λ r. ⌜ r ≡ line3 (now (s .entry)) ⌝ }
+{
+    (s[0] != MARKER[0]) | (s[1] != MARKER[1]) | (s[2] != MARKER[2]) | (s[3] != MARKER[3])
+}
+
+// Reading 512 bytes.
+fn read_whole(s: &[u8]) -> Reading
+    requires { ⌜ length (now s) ≡ blockLength ⌝ }
+    ensures { λ r. ⌜ (refusalOf (r .refusal) ≡ readRefusal (now (s .entry))) × (r .table ≡ readTable (now (s .entry))) ⌝ }
+{
+    if decode::stored_check(s) != checksum::checksum(s) {
+        return refused(2);
+    }
+    if marker_wrong(s) {
+        return refused(3);
+    }
+    if s[EDITION_AT] != EditionOne::NUMBER {
+        return refused(4);
+    }
+    let t = decode::decode(s);
+    table_if(refusals::refuse(t, zeros::bytes_not_zero(s)), t)
+}
+
+// Any bytes: the lowest refusal of 1 to 11, and the table, which is blank if there is one.
+pub fn read(s: &[u8]) -> Reading
+    ensures { λ r. ⌜ (refusalOf (r .refusal) ≡ readRefusal (now (s .entry))) × (r .table ≡ readTable (now (s .entry))) ⌝ }
+{
+    if s.len() != EditionOne::BLOCK {
+        return refused(1);
+    }
+    read_whole(s)
+}

@@ -1,0 +1,23 @@
+-- `weighted`: a product of a place and a byte is small.
+use mathlib.Core.Path.{refl}
+use native.Mathlib.Omega.{arith}
+use borrow.Author.Needs.{needs}
+use Rattle.checksum.specs.Checksum.{covered}
+use Rattle.checksum.proofs.ChecksumLaws.{weighted-small}
+use Rattle.checksum.proofs.weighted.Statement.{statement}
+use Rattle.checksum.proofs.weighted.Tie as tie
+
+cast-result : tie.Need-cast-result
+cast-result c = search needs
+
+add-result : tie.Need-add-result
+add-result c = search needs
+
+mul-result : tie.Need-mul-result
+mul-result c = omega (arith, weighted-small (c .args .i) covered (c .args .b) (c .pre) (c .fits .b .fits))
+
+returns : tie.Need-returns
+returns c = (refl, weighted-small (c .args .i) covered (c .args .b) (c .pre) (c .fits .b .fits))
+
+pub weighted-spec : {M : Type 1} → statement M
+weighted-spec = tie.close (tie.spec cast-result add-result mul-result returns)

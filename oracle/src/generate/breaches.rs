@@ -1,0 +1,335 @@
+//! One valid table, and for each clause of the lines 3 to 10 changes of its block's bytes
+//! that break the clause.
+
+use crate::encode::{encode, seal};
+use crate::layout::{field::*, *};
+use crate::litmus::*;
+use crate::table::{Line, Table, ACQUIRE_RCSC, PR, RELEASE_RCPC, SW};
+
+/// A byte's place and its new value.
+type Change = (usize, u8);
+
+#[derive(Clone, Copy)]
+pub struct Breach {
+    pub line: Line,
+    pub record: Option<usize>,
+    changes: &'static [Change],
+}
+
+impl Breach {
+    /// Breaks the clause in a block; the check is made right again.
+    pub fn apply(&self, block: &mut [u8]) {
+        for &(at, value) in self.changes {
+            block[at] = value;
+        }
+        seal(block);
+    }
+}
+
+/// The base: 3 harts, 5 locations, 12 events, and all seven kinds.
+pub fn base() -> Table {
+    let events = vec![
+        load(0, 0, 7),
+        store(0, 1, 300).data_from(0),
+        lr(1, 2, 5),
+        fence(0, PR | SW),
+        amo(2, 0, 7, 65535),
+        sc(1, 2, 9),
+        fence_tso(2),
+        load(0, 3, 258).address_from(0).control_from(0),
+        store(0, 4, 4).control_from(0).flags(RELEASE_RCPC),
+        lr(2, 3, 6),
+        sc(2, 3, 8).data_from(9),
+        load(2, 1, 0).flags(ACQUIRE_RCSC),
+    ];
+    Table { initial: [7, 0, 5, 258, 0, 0, 0, 0], ..table(events) }
+        .with_final(0, 65535)
+        .with_final(2, 9)
+}
+
+pub fn base_block() -> Vec<u8> {
+    encode(&base())
+}
+
+/// All breaches, in the order of the lines.
+pub fn breaches() -> Vec<Breach> {
+    let header = [
+        (Line::Marker, MARKER_BREACHES),
+        (Line::Edition, EDITION_BREACHES),
+        (Line::Ranges, RANGES_BREACHES),
+        (Line::Zeros, ZEROS_BREACHES),
+    ];
+    let records = [
+        (Line::Fields, FIELDS_BREACHES),
+        (Line::Annotations, ANNOTATIONS_BREACHES),
+        (Line::Dependencies, DEPENDENCIES_BREACHES),
+        (Line::Pairing, PAIRING_BREACHES),
+    ];
+    let mut all = Vec::new();
+    for (line, breaches) in header {
+        all.extend(breaches.iter().map(|&changes| Breach { line, record: None, changes }));
+    }
+    for (line, breaches) in records {
+        let breach = |&(record, changes)| Breach { line, record: Some(record), changes };
+        all.extend(breaches.iter().map(breach));
+    }
+    all
+}
+
+const MARKER_BREACHES: &[&[Change]] = &[
+    &[(0, 0x53)],
+    &[(0, 0)],
+    &[(1, 0x57)],
+    &[(2, 0x55)],
+    &[(3, 0x30)],
+    &[(3, 0x32)],
+    // The marker with its bytes turned round.
+    &[(0, 0x31), (1, 0x54), (2, 0x56), (3, 0x52)],
+];
+
+const EDITION_BREACHES: &[&[Change]] =
+    &[&[(EDITION_AT, 0)], &[(EDITION_AT, 2)], &[(EDITION_AT, 9)], &[(EDITION_AT, 255)]];
+
+const RANGES_BREACHES: &[&[Change]] = &[
+    &[(HARTS_AT, 0)],
+    &[(HARTS_AT, 5)],
+    &[(HARTS_AT, 255)],
+    &[(LOCATIONS_AT, 0)],
+    &[(LOCATIONS_AT, 9)],
+    &[(LOCATIONS_AT, 255)],
+    &[(EVENTS_AT, 0)],
+    &[(EVENTS_AT, 17)],
+    &[(EVENTS_AT, 200)],
+    &[(EVENTS_AT, 255)],
+    // The mask names the first location past the test's five, the last one, all eight.
+    &[(STATED_AT, 1 << 5)],
+    &[(STATED_AT, 1 << 7 | 0b101)],
+    &[(STATED_AT, 255)],
+];
+
+const ZEROS_BREACHES: &[&[Change]] = &[
+    &[(9, 1)],
+    &[(12, 200)],
+    &[(15, 255)],
+    &[(304, 1)],
+    &[(400, 16)],
+    &[(507, 255)],
+    // Initial values of the locations 5 and 7, which aren't in the test.
+    &[(initial_at(5), 1)],
+    &[(initial_at(5) + 1, 1)],
+    &[(initial_at(7) + 1, 255)],
+    // Final values not stated: locations in the test, then not in it.
+    &[(final_at(1), 1)],
+    &[(final_at(4) + 1, 1)],
+    &[(final_at(5), 3)],
+    &[(final_at(7) + 1, 255)],
+    // A stated value that is no longer stated.
+    &[(STATED_AT, 0b001)],
+    // Records past the events: the first, the last, their spare bytes.
+    &[(record_at(12) + KIND, 1)],
+    &[(record_at(12) + FLAGS, 1)],
+    &[(record_at(13) + HART, 1)],
+    &[(record_at(14) + CONTROL + 1, 128)],
+    &[(record_at(15) + WRITTEN + 1, 1)],
+    &[(record_at(12) + 14, 1)],
+    &[(record_at(15) + 15, 255)],
+    // Spare bytes of records of the test.
+    &[(record_at(0) + 14, 1)],
+    &[(record_at(0) + 15, 1)],
+    &[(record_at(3) + 14, 128)],
+    &[(record_at(11) + 15, 255)],
+    // One event fewer leaves the last record past the events.
+    &[(EVENTS_AT, 11)],
+];
+
+/// Breaches of a line that names a record: the record, and the changes.
+type RecordBreaches = &'static [(usize, &'static [Change])];
+
+const FIELDS_BREACHES: RecordBreaches = &[
+    // Kind out of range.
+    (0, &[(record_at(0) + KIND, 0)]),
+    (4, &[(record_at(4) + KIND, 8)]),
+    (7, &[(record_at(7) + KIND, 77)]),
+    (11, &[(record_at(11) + KIND, 0)]),
+    (11, &[(record_at(11) + KIND, 8)]),
+    (11, &[(record_at(11) + KIND, 255)]),
+    // Hart out of range, on accesses and on fences.
+    (0, &[(record_at(0) + HART, 3)]),
+    (3, &[(record_at(3) + HART, 3)]),
+    (6, &[(record_at(6) + HART, 4)]),
+    (11, &[(record_at(11) + HART, 255)]),
+    // Location out of range.
+    (0, &[(record_at(0) + LOCATION, 5)]),
+    (4, &[(record_at(4) + LOCATION, 8)]),
+    (11, &[(record_at(11) + LOCATION, 255)]),
+    // Flags out of range, on accesses and on a fence.
+    (0, &[(record_at(0) + FLAGS, 16)]),
+    (1, &[(record_at(1) + FLAGS, 255)]),
+    (3, &[(record_at(3) + FLAGS, 16)]),
+    (3, &[(record_at(3) + FLAGS, 255)]),
+    (11, &[(record_at(11) + FLAGS, 16 | ACQUIRE_RCSC)]),
+    // A value read, but nothing reads: store, fence, SC, fence.tso.
+    (1, &[(record_at(1) + READ, 1)]),
+    (3, &[(record_at(3) + READ + 1, 1)]),
+    (5, &[(record_at(5) + READ, 5)]),
+    (6, &[(record_at(6) + READ, 255)]),
+    (8, &[(record_at(8) + READ + 1, 255)]),
+    // A value written, but nothing writes: load, LR, fence, fence.tso.
+    (0, &[(record_at(0) + WRITTEN, 1)]),
+    (2, &[(record_at(2) + WRITTEN + 1, 1)]),
+    (3, &[(record_at(3) + WRITTEN, 1)]),
+    (6, &[(record_at(6) + WRITTEN + 1, 255)]),
+    (11, &[(record_at(11) + WRITTEN, 255)]),
+    // A fence with a location, or with a mask that would suit an access.
+    (3, &[(record_at(3) + LOCATION, 1)]),
+    (3, &[(record_at(3) + LOCATION, 255)]),
+    (3, &[(record_at(3) + ADDRESS, 1)]),
+    (3, &[(record_at(3) + DATA, 1)]),
+    (3, &[(record_at(3) + CONTROL, 1)]),
+    (6, &[(record_at(6) + LOCATION, 4)]),
+    (6, &[(record_at(6) + ADDRESS, 1 << 4)]),
+    (6, &[(record_at(6) + DATA, 1 << 4)]),
+    (6, &[(record_at(6) + CONTROL, 1 << 4)]),
+    (6, &[(record_at(6) + CONTROL + 1, 128)]),
+    // Flags on fence.tso.
+    (6, &[(record_at(6) + FLAGS, 1)]),
+    (6, &[(record_at(6) + FLAGS, 15)]),
+    (6, &[(record_at(6) + FLAGS, 16)]),
+];
+
+const ANNOTATIONS_BREACHES: RecordBreaches = &[
+    // Both acquires.
+    (0, &[(record_at(0) + FLAGS, 0b0011)]),
+    (1, &[(record_at(1) + FLAGS, 0b0111)]),
+    (2, &[(record_at(2) + FLAGS, 0b0011)]),
+    (4, &[(record_at(4) + FLAGS, 0b0011)]),
+    (5, &[(record_at(5) + FLAGS, 0b1011)]),
+    (11, &[(record_at(11) + FLAGS, 0b0011)]),
+    // Both releases.
+    (0, &[(record_at(0) + FLAGS, 0b1101)]),
+    (4, &[(record_at(4) + FLAGS, 0b1110)]),
+    (8, &[(record_at(8) + FLAGS, 0b1100)]),
+    (10, &[(record_at(10) + FLAGS, 0b1100)]),
+    // Both of both.
+    (11, &[(record_at(11) + FLAGS, 0b1111)]),
+    // A reader with release and no acquire: load, LR, AMO.
+    (0, &[(record_at(0) + FLAGS, 0b0100)]),
+    (0, &[(record_at(0) + FLAGS, 0b1000)]),
+    (2, &[(record_at(2) + FLAGS, 0b1000)]),
+    (4, &[(record_at(4) + FLAGS, 0b0100)]),
+    (4, &[(record_at(4) + FLAGS, 0b1000)]),
+    (11, &[(record_at(11) + FLAGS, 0b0100)]),
+    // A plain store or an SC with acquire and no release.
+    (1, &[(record_at(1) + FLAGS, 0b0001)]),
+    (1, &[(record_at(1) + FLAGS, 0b0010)]),
+    (5, &[(record_at(5) + FLAGS, 0b0001)]),
+    (10, &[(record_at(10) + FLAGS, 0b0010)]),
+];
+
+const DEPENDENCIES_BREACHES: RecordBreaches = &[
+    // An event that isn't earlier: itself, a later one.
+    (0, &[(record_at(0) + ADDRESS, 1 << 0)]),
+    (0, &[(record_at(0) + ADDRESS, 1 << 7)]),
+    (1, &[(record_at(1) + DATA, 1 << 1)]),
+    (7, &[(record_at(7) + ADDRESS + 1, 1 << 0)]),
+    (8, &[(record_at(8) + DATA + 1, 1 << 0)]),
+    (8, &[(record_at(8) + CONTROL + 1, 1 << 0)]),
+    (11, &[(record_at(11) + ADDRESS + 1, 1 << 3)]),
+    // An event of another hart.
+    (2, &[(record_at(2) + ADDRESS, 1 << 0)]),
+    (7, &[(record_at(7) + ADDRESS, 1 << 2)]),
+    (8, &[(record_at(8) + DATA, 1 << 4)]),
+    (8, &[(record_at(8) + CONTROL, 1 << 0 | 1 << 5)]),
+    // No event of the test: the first number past the events, and bit 15.
+    (0, &[(record_at(0) + ADDRESS + 1, 1 << 7)]),
+    (8, &[(record_at(8) + DATA + 1, 1 << 4)]),
+    (8, &[(record_at(8) + DATA + 1, 1 << 7)]),
+    (8, &[(record_at(8) + CONTROL + 1, 1 << 4)]),
+    (11, &[(record_at(11) + CONTROL + 1, 1 << 7)]),
+    // A plain store.
+    (7, &[(record_at(7) + ADDRESS, 1 << 1)]),
+    (8, &[(record_at(8) + DATA, 1 << 1)]),
+    (8, &[(record_at(8) + CONTROL, 1 << 0 | 1 << 1)]),
+    // A fence, a fence.tso.
+    (7, &[(record_at(7) + ADDRESS, 1 << 3)]),
+    (8, &[(record_at(8) + DATA, 1 << 3)]),
+    (8, &[(record_at(8) + CONTROL, 1 << 0 | 1 << 3)]),
+    (11, &[(record_at(11) + ADDRESS, 1 << 6)]),
+    // A data mask on a non-writer: loads and an LR, each naming what an address mask may.
+    (7, &[(record_at(7) + DATA, 1 << 0)]),
+    (9, &[(record_at(9) + DATA, 1 << 4)]),
+    (11, &[(record_at(11) + DATA, 1 << 4)]),
+    // A control bit that a later memory event of the hart lacks.
+    (7, &[(record_at(8) + CONTROL, 0)]),
+    (9, &[(record_at(9) + CONTROL, 1 << 4)]),
+    (9, &[(record_at(9) + CONTROL, 1 << 4), (record_at(10) + CONTROL, 1 << 4)]),
+    (10, &[(record_at(10) + CONTROL + 1, 1 << 1)]),
+    // The later event lacks one bit of two.
+    (
+        10,
+        &[
+            (record_at(10) + CONTROL, 1 << 4),
+            (record_at(10) + CONTROL + 1, 1 << 1),
+            (record_at(11) + CONTROL, 1 << 4),
+        ],
+    ),
+];
+
+const PAIRING_BREACHES: RecordBreaches = &[
+    // The LR's location is another.
+    (5, &[(record_at(5) + LOCATION, 3)]),
+    (5, &[(record_at(2) + LOCATION, 0)]),
+    (10, &[(record_at(10) + LOCATION, 4)]),
+    // No LR: it is a load, or on another hart.
+    (5, &[(record_at(2) + KIND, 1)]),
+    (5, &[(record_at(2) + HART, 2)]),
+    (10, &[(record_at(9) + KIND, 1)]),
+    // The SC's own hart is another.
+    (5, &[(record_at(5) + HART, 2)]),
+    // Two SCs, the first with no LR.
+    (9, &[(record_at(9) + KIND, 5), (record_at(9) + READ, 0)]),
+    // LR, SC, SC.
+    (11, &[(record_at(11) + KIND, 5), (record_at(11) + LOCATION, 3), (record_at(11) + FLAGS, 0)]),
+];
+
+#[cfg(test)]
+mod tests {
+    use super::*;
+    use crate::table::{read, Refusal};
+
+    #[test]
+    fn the_base_is_read() {
+        assert_eq!(read(&base_block()), Ok(base()));
+    }
+
+    #[test]
+    fn each_breach_breaks_its_line_at_its_record() {
+        for breach in breaches() {
+            let mut block = base_block();
+            breach.apply(&mut block);
+            let Breach { line, record, changes } = breach;
+            assert_eq!(read(&block), Err(Refusal { line, record }), "{changes:?}");
+        }
+    }
+
+    /// Breaches that change one record may mend each other.
+    fn change_one_record(a: &Breach, b: &Breach) -> bool {
+        let record = |&(at, _): &Change| at / RECORD_LENGTH;
+        a.changes.iter().any(|one| b.changes.iter().any(|other| record(one) == record(other)))
+    }
+
+    #[test]
+    fn the_lowest_line_wins_over_every_later_breach() {
+        for low in breaches() {
+            let is_later = |high: &Breach| high.line as u8 > low.line as u8;
+            let is_apart = |high: &Breach| !change_one_record(&low, high);
+            for high in breaches().into_iter().filter(is_later).filter(is_apart) {
+                let mut block = base_block();
+                high.apply(&mut block);
+                low.apply(&mut block);
+                let Breach { line, record, .. } = low;
+                assert_eq!(read(&block), Err(Refusal { line, record }));
+            }
+        }
+    }
+}

@@ -1,0 +1,396 @@
+//! The stored stream of `candidates`, with a name for each call.
+
+use super::breaches::{base, base_block, breaches};
+use super::cases::*;
+use super::orders::*;
+use super::prng::Prng;
+use super::random::random_table;
+use crate::candidate::{encode_entry, INITIAL, NON_READER};
+use crate::candidates::{LEND, RETURNED, VERDICT};
+use crate::encode::encode;
+use crate::layout::*;
+use crate::litmus::{self, *};
+use crate::rules::{determined_returns, RULE_COUNT};
+use crate::stream::{push_frame, push_list};
+use crate::table::*;
+
+const SEED: u64 = 2;
+const RANDOM_TABLES: usize = 160;
+const ROUNDS: usize = 3;
+
+/// The stream, and the names of its calls.
+#[derive(Default)]
+pub struct Calls {
+    pub stream: Vec<u8>,
+    pub names: Vec<String>,
+}
+
+impl Calls {
+    fn lend(&mut self, block: &[u8]) {
+        self.stream.push(LEND);
+        push_frame(&mut self.stream, block);
+    }
+
+    fn verdict(&mut self, name: &str, returned: &[u8], order: &[u8]) {
+        self.names.push(name.to_string());
+        self.stream.push(VERDICT);
+        push_list(&mut self.stream, returned);
+        push_list(&mut self.stream, order);
+    }
+
+    fn returned(&mut self, name: &str, order: &[u8], buffer_length: usize) {
+        self.names.push(name.to_string());
+        self.stream.push(RETURNED);
+        push_list(&mut self.stream, order);
+        self.stream.push(buffer_length as u8);
+    }
+}
+
+pub fn make_candidates() -> Calls {
+    let mut calls = Calls::default();
+    four_points(&mut calls);
+    load_values(&mut calls);
+    fences(&mut calls);
+    annotations(&mut calls);
+    for (name, test) in litmus::all() {
+        every_order(&mut calls, name, &test);
+    }
+    let families = [
+        location_cases(),
+        fence_cases(),
+        annotation_cases(),
+        dependency_cases(),
+        forwarding_cases(),
+        later_write_cases(),
+        atomicity_cases(),
+        value_cases(),
+    ];
+    for (name, test) in families.concat() {
+        every_order(&mut calls, name, &test);
+    }
+    reading_refusals(&mut calls);
+    order_refusals(&mut calls);
+    returned_refusals(&mut calls);
+    buffer_lengths(&mut calls);
+    let mut prng = Prng::new(SEED);
+    for _ in 0..RANDOM_TABLES {
+        random_calls(&mut calls, &mut prng);
+    }
+    calls
+}
+
+pub fn list_candidates() -> String {
+    let names = make_candidates().names;
+    names.iter().enumerate().map(|(number, name)| format!("{number}: {name}\n")).collect()
+}
+
+/// The returned list that an order determines.
+fn returned_list(table: &Table, order: &[usize]) -> Vec<u8> {
+    determined_returns(table, order).into_iter().map(encode_entry).collect()
+}
+
+/// Both entries on one order, the verdict with the returned list that it determines.
+fn both_entries(calls: &mut Calls, name: &str, table: &Table, order: &[usize]) {
+    calls.verdict(name, &returned_list(table, order), &bytes(order));
+    calls.returned(name, &bytes(order), table.events.len());
+}
+
+fn every_order(calls: &mut Calls, name: &str, table: &Table) {
+    calls.lend(&encode(table));
+    for order in permutations(&table.memory_events()) {
+        both_entries(calls, name, table, &order);
+    }
+}
+
+/// One candidate of a table of its own.
+fn single(calls: &mut Calls, name: &str, table: &Table, returned: &[u8], order: &[u8]) {
+    calls.lend(&encode(table));
+    calls.verdict(name, returned, order);
+}
+
+/// "Where bench programs have gone wrong"
+fn four_points(calls: &mut Calls) {
+    single(calls, "own-store-wait", &c4(1), &[NON_READER, 0], &[1, 0]);
+    let control = [NON_READER, NON_READER, NON_READER, 2, INITIAL];
+    single(calls, "control-load", &c9_control(), &control, &[4, 0, 2, 3]);
+    let mut initial_one = table(vec![load(0, X, 1), load(0, X, 1), store(1, X, 1)]);
+    initial_one.initial[X] = 1;
+    single(calls, "rule2-equal-values", &initial_one, &[2, INITIAL, NON_READER], &[1, 2, 0]);
+    let two_stores = table(vec![load(0, X, 1), load(0, X, 1), store(1, X, 1), store(2, X, 1)]);
+    let returned = [3, 2, NON_READER, NON_READER];
+    single(calls, "rule2-equal-values", &two_stores, &returned, &[2, 1, 3, 0]);
+    single(calls, "rule2-one-write", &two_stores, &[3, 3, NON_READER, NON_READER], &[2, 3, 1, 0]);
+    let pair = [INITIAL, NON_READER, NON_READER];
+    single(calls, "own-store-atomicity", &c8(), &pair, &[0, 1, 2]);
+}
+
+/// Returned lists that line 14 lets pass, and the order doesn't determine.
+fn load_values(calls: &mut Calls) {
+    single(calls, "load-value-amo-itself", &c5(), &[0, 0], &[0, 1]);
+    single(calls, "load-value-initial", &c4(1), &[NON_READER, INITIAL], &[0, 1]);
+    let own_later = table(vec![load(0, X, 0), store(0, X, 1)]);
+    single(calls, "load-value-own-later-store", &own_later, &[1, NON_READER], &[0, 1]);
+    let foreign = table(vec![load(0, X, 0), store(1, X, 1), store(1, X, 2)]);
+    for (written, order) in [(1, [0, 1, 2]), (1, [1, 2, 0]), (2, [1, 0, 2]), (INITIAL, [1, 0, 2])] {
+        single(
+            calls,
+            "load-value-foreign-store",
+            &foreign,
+            &[written, NON_READER, NON_READER],
+            &order,
+        );
+    }
+    // Rule 3 as the lowest rule with an AMO: a store between rules out rule 2.
+    let amo_first = table(vec![amo(0, X, 0, 1), store(0, X, 2), load(0, X, 1)]);
+    single(calls, "rule-3-amo", &amo_first, &[INITIAL, NON_READER, 0], &[2, 0, 1]);
+    single(calls, "rule-3-amo-kept", &amo_first, &[INITIAL, NON_READER, 0], &[0, 1, 2]);
+    // The returns given count for rules 2, 3 and 12, not those that the order determines.
+    let c6_list = [NON_READER, 0, INITIAL];
+    single(calls, "returns-given-rule-2", &c6(), &c6_list, &[2, 1, 0]);
+    let dependent = table(vec![load(0, X, 0), store(0, Y, 1).data_from(0), load(0, Y, 1)]);
+    single(calls, "returns-given-rule-12", &dependent, &[INITIAL, NON_READER, INITIAL], &[2, 0, 1]);
+    let both_initial = [NON_READER, NON_READER, INITIAL, INITIAL];
+    single(calls, "load-value-lowest-reader", &c1(), &both_initial, &[0, 1, 2, 3]);
+    // An LR that names its own SC.
+    single(calls, "load-value-lr-own-sc", &c7(1), &[1, NON_READER, NON_READER], &[0, 1, 2]);
+}
+
+/// Rule 4 with every flags and fence.tso, between every two of a load, a store and an AMO;
+/// the order is the other way round.
+fn fences(calls: &mut Calls) {
+    let flagged = (0..=ALL_FLAGS).map(|flags| fence(0, flags));
+    for fence in flagged.chain([fence_tso(0)]) {
+        let accesses =
+            |location| [load(0, location, 0), store(0, location, 1), amo(0, location, 0, 1)];
+        for first in accesses(X) {
+            for second in accesses(Y) {
+                let test = table(vec![first.clone(), fence.clone(), second]);
+                single(calls, "rule-4", &test, &returned_list(&test, &[2, 0]), &[2, 0]);
+            }
+        }
+    }
+}
+
+/// Rules 5, 6 and 7: every lawful flags on two accesses, in the order the other way round.
+fn annotations(calls: &mut Calls) {
+    let pairs = [(load(0, X, 0), store(0, Y, 1)), (store(0, X, 1), load(0, Y, 0))];
+    for (first, second) in pairs {
+        for flags in 0..=ALL_FLAGS {
+            for other in 0..=ALL_FLAGS {
+                let events = vec![first.clone().flags(flags), second.clone().flags(other)];
+                let test = table(events);
+                if read(&encode(&test)).is_ok() {
+                    let returned = returned_list(&test, &[1, 0]);
+                    single(calls, "rules-5-6-7", &test, &returned, &[1, 0]);
+                }
+            }
+        }
+    }
+}
+
+/// Lines 1 to 11, each with lists that are right and with an order and a buffer too short.
+fn reading_refusals(calls: &mut Calls) {
+    let mut wrong_check = base_block();
+    wrong_check[CHECK_AT] ^= 1;
+    let short = base_block()[..BLOCK_LENGTH - 1].to_vec();
+    let long = base_block().repeat(2);
+    let mut blocks = vec![Vec::new(), short, long, wrong_check];
+    let all = breaches();
+    for line in all.chunk_by(|a, b| a.line == b.line) {
+        for breach in [line[0], line[line.len() / 2], line[line.len() - 1]] {
+            let mut block = base_block();
+            breach.apply(&mut block);
+            blocks.push(block);
+        }
+    }
+    let order = base().memory_events();
+    let returned = returned_list(&base(), &order);
+    for block in blocks {
+        calls.lend(&block);
+        calls.verdict("refused-reading", &returned, &bytes(&order));
+        calls.returned("refused-reading", &bytes(&order), returned.len());
+        calls.verdict("refused-reading-and-length", &returned, &[]);
+        calls.returned("refused-reading-and-buffer", &bytes(&order), 0);
+    }
+    calls.lend(&encode(&table(vec![fence(0, FULL), fence_tso(0)])));
+    calls.verdict("refused-no-memory-event", &[NON_READER, NON_READER], &[]);
+    calls.returned("refused-no-memory-event", &[], 2);
+}
+
+/// Lines 12 and 13. The memory events of C2 are 0, 2, 3 and 5; 1 and 4 are fences.
+fn order_refusals(calls: &mut Calls) {
+    let returned = returned_list(&c2(), &[0, 2, 3, 5]);
+    let long_list = [INITIAL; 255];
+    calls.lend(&encode(&c2()));
+    for order in [&[][..], &[0], &[0, 2, 3], &[0, 2, 3, 5, 5], &[0, 0], &[9; 8], &[0; 255]] {
+        calls.verdict("refused-order-length", &returned, order);
+        calls.returned("refused-order-length", order, returned.len());
+        calls.returned("refused-order-length-and-buffer", order, 0);
+        calls.verdict("refused-both-lengths", &[], order);
+    }
+    for list in
+        [&[][..], &returned[..1], &returned[..5], &[&returned[..], &[254]].concat(), &long_list]
+    {
+        calls.verdict("refused-returned-length", list, &[0, 2, 3, 5]);
+        calls.verdict("refused-returned-length-and-order", list, &[0, 0, 3, 5]);
+    }
+    let orders = [
+        [0, 0, 3, 5],
+        [0, 2, 3, 3],
+        [5, 5, 5, 5],
+        [0, 1, 3, 5],
+        [4, 2, 3, 5],
+        [0, 2, 3, 6],
+        [0, 2, 3, 16],
+        [254, 2, 3, 5],
+        [0, 2, 255, 5],
+        [0, 2, 3, 5 + 128],
+    ];
+    for order in orders {
+        calls.verdict("refused-order-events", &returned, &order);
+        calls.returned("refused-order-events", &order, returned.len());
+        calls.verdict("refused-order-events-and-returned", &[0; 6], &order);
+        calls.returned("refused-order-events-and-buffer", &order, 0);
+    }
+}
+
+/// Line 14, entry by entry: every byte that could matter for each event.
+fn returned_refusals(calls: &mut Calls) {
+    let test = table(vec![
+        load(0, X, 0),
+        store(0, X, 1),
+        store(1, Y, 1),
+        fence(0, FULL),
+        amo(1, X, 0, 2),
+        lr(2, X, 0),
+        sc(2, X, 3),
+        fence_tso(2),
+        load(2, Y, 1),
+    ]);
+    let order = test.memory_events();
+    let returned = returned_list(&test, &order);
+    let past = test.events.len() as u8;
+    calls.lend(&encode(&test));
+    for event in 0..test.events.len() {
+        for entry in (0..=past).chain([16, 128, 253, NON_READER, INITIAL]) {
+            let mut changed = returned.clone();
+            changed[event] = entry;
+            calls.verdict("returned-entry", &changed, &bytes(&order));
+        }
+    }
+}
+
+/// Buffers of every length about the number of events, and line 16 with 12 and 13.
+fn buffer_lengths(calls: &mut Calls) {
+    calls.lend(&encode(&c2()));
+    for length in (0..=10).chain([254, 255]) {
+        calls.returned("buffer-length", &[3, 5, 0, 2], length);
+        calls.returned("buffer-length-and-order-length", &[3, 5, 0], length);
+        calls.returned("buffer-length-and-order-events", &[3, 5, 0, 1], length);
+    }
+}
+
+/// A table whose harts meet at few locations.
+fn contended_table(prng: &mut Prng) -> Table {
+    let locations = if prng.one_in(6) { MAX_LOCATIONS } else { 1 + prng.below(3) };
+    let harts = 1 + prng.below(MAX_HARTS);
+    let events = 2 + prng.below(MAX_EVENTS - 1);
+    random_table(prng, harts, locations, events)
+}
+
+/// Random candidates of one table, most of them consistent or nearly so.
+fn random_calls(calls: &mut Calls, prng: &mut Prng) {
+    let mut table = contended_table(prng);
+    let lawful = lawful_order(prng, &table);
+    if let Some(order) = &lawful {
+        choose_outcome(prng, &mut table, order);
+    }
+    calls.lend(&encode(&table));
+    if let Some(order) = &lawful {
+        both_entries(calls, "random-lawful", &table, order);
+    }
+    for _ in 0..ROUNDS {
+        let order = linear_extension(prng, &table);
+        let returned = returned_list(&table, &order);
+        both_entries(calls, "random-extension", &table, &order);
+        let changed = other_return(prng, &table, &returned);
+        calls.verdict("random-return", &changed, &bytes(&order));
+        let changed = other_return(prng, &table, &changed);
+        calls.verdict("random-returns", &changed, &bytes(&order));
+        let swapped = with_swap(prng, lawful.as_ref().unwrap_or(&order));
+        both_entries(calls, "random-swap", &table, &swapped);
+    }
+    against_each_rule(calls, prng, &table);
+    let shuffled = permutation(prng, &table);
+    both_entries(calls, "random-permutation", &table, &shuffled);
+    random_damage(calls, prng, &table);
+}
+
+/// For each steady rule an order with one pair the wrong way round, where there is one.
+fn against_each_rule(calls: &mut Calls, prng: &mut Prng, table: &Table) {
+    for rule in 1..=RULE_COUNT {
+        if let Some(order) = extension_against(prng, table, rule) {
+            let name = format!("random-against-rule-{rule}");
+            calls.verdict(&name, &returned_list(table, &order), &bytes(&order));
+        }
+    }
+}
+
+/// By turns leaves the random values, states those of an order, or all of them but one.
+fn choose_outcome(prng: &mut Prng, table: &mut Table, order: &[usize]) {
+    let choice = prng.below(4);
+    if choice > 0 {
+        state_outcome(table, order);
+    }
+    if choice == 1 && table.stated != 0 {
+        let location = table.stated.trailing_zeros() as usize;
+        table.finals[location] = table.finals[location].wrapping_add(1);
+    }
+}
+
+/// An order with two entries swapped.
+fn with_swap(prng: &mut Prng, order: &[usize]) -> Vec<usize> {
+    let mut swapped = order.to_vec();
+    swapped.swap(prng.below(order.len()), prng.below(order.len()));
+    swapped
+}
+
+/// A returned list with a reader's entry changed to another that line 14 lets pass.
+fn other_return(prng: &mut Prng, table: &Table, returned: &[u8]) -> Vec<u8> {
+    let mut changed = returned.to_vec();
+    let readers: Vec<usize> =
+        (0..table.events.len()).filter(|&e| table.events[e].reads()).collect();
+    if !readers.is_empty() {
+        let reader = *prng.pick(&readers);
+        let location = table.events[reader].location;
+        let writes = |e: &usize| table.events[*e].writes() && table.events[*e].location == location;
+        let writers = bytes(&(0..table.events.len()).filter(writes).collect::<Vec<_>>());
+        changed[reader] = *prng.pick(&[writers, vec![INITIAL]].concat());
+    }
+    changed
+}
+
+/// One byte of the order or of the returned list is any byte; any buffer length.
+fn random_damage(calls: &mut Calls, prng: &mut Prng, table: &Table) {
+    let order = linear_extension(prng, table);
+    let mut returned = returned_list(table, &order);
+    let mut order = bytes(&order);
+    let list = if prng.one_in(2) { &mut order } else { &mut returned };
+    let at = prng.below(list.len());
+    list[at] = prng.next() as u8;
+    calls.verdict("random-damage", &returned, &order);
+    calls.returned("random-damage", &order, prng.below(2 * MAX_EVENTS));
+}
+
+#[cfg(test)]
+mod tests {
+    use super::*;
+    use crate::candidates::print_candidates;
+
+    #[test]
+    fn each_call_has_a_name() {
+        let calls = make_candidates();
+        let lines = print_candidates(&calls.stream).expect("the stream is whole");
+        assert_eq!(lines.lines().count(), calls.names.len());
+    }
+}

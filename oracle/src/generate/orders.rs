@@ -1,0 +1,107 @@
+//! Orders of a table's memory events, and outcomes that orders have.
+
+use super::prng::Prng;
+use crate::rules::{determined_returns, first_broken, last_value, steady_rules, value_of, Axiom};
+use crate::table::{names_location, Table};
+
+/// How many random orders are tried for a lawful one.
+const TRIES: usize = 40;
+
+/// A random order that no steady rule speaks against.
+pub fn linear_extension(prng: &mut Prng, table: &Table) -> Vec<usize> {
+    let is_before = |a, b| !steady_rules(table, a, b).is_empty();
+    extension_of(prng, table, is_before).expect("steady rules follow program order")
+}
+
+/// A random order with one pair the wrong way round, if some pair is put in order by the
+/// given steady rule alone, and the rest lets it be.
+pub fn extension_against(prng: &mut Prng, table: &Table, rule: usize) -> Option<Vec<usize>> {
+    let events = table.memory_events();
+    let pairs = events.iter().flat_map(|&a| events.iter().map(move |&b| (a, b)));
+    let ordered: Vec<_> = pairs.filter(|&(a, b)| steady_rules(table, a, b) == [rule]).collect();
+    if ordered.is_empty() {
+        return None;
+    }
+    let (first, second) = *prng.pick(&ordered);
+    extension_of(prng, table, |a, b| {
+        let is_pair = (a, b) == (first, second);
+        (a, b) == (second, first) || !is_pair && !steady_rules(table, a, b).is_empty()
+    })
+}
+
+/// A random order of the memory events that keeps to a relation, unless it has a cycle.
+fn extension_of(
+    prng: &mut Prng,
+    table: &Table,
+    is_before: impl Fn(usize, usize) -> bool,
+) -> Option<Vec<usize>> {
+    let mut left = table.memory_events();
+    let mut order = Vec::new();
+    while !left.is_empty() {
+        let is_free = |&b: &usize| !left.iter().any(|&a| is_before(a, b));
+        let free: Vec<usize> = left.iter().copied().filter(is_free).collect();
+        if free.is_empty() {
+            return None;
+        }
+        let next = *prng.pick(&free);
+        left.retain(|&event| event != next);
+        order.push(next);
+    }
+    Some(order)
+}
+
+/// A random order that is lawful, if one is met.
+pub fn lawful_order(prng: &mut Prng, table: &Table) -> Option<Vec<usize>> {
+    (0..TRIES).map(|_| linear_extension(prng, table)).find(|order| is_lawful(table, order))
+}
+
+/// "An order is lawful if, with the returns that it determines, preserved order, load value
+/// and atomicity hold."
+fn is_lawful(table: &Table, order: &[usize]) -> bool {
+    matches!(
+        first_broken(table, order, &determined_returns(table, order)),
+        None | Some(Axiom::ValueRead { .. } | Axiom::FinalValue { .. })
+    )
+}
+
+/// A random order of all memory events.
+pub fn permutation(prng: &mut Prng, table: &Table) -> Vec<usize> {
+    let mut order = table.memory_events();
+    for end in (1..order.len()).rev() {
+        order.swap(end, prng.below(end + 1));
+    }
+    order
+}
+
+/// All orders of some events, ascending.
+pub fn permutations(events: &[usize]) -> Vec<Vec<usize>> {
+    if events.is_empty() {
+        return vec![Vec::new()];
+    }
+    let mut all = Vec::new();
+    for &first in events {
+        let rest: Vec<usize> = events.iter().copied().filter(|&e| e != first).collect();
+        let starting = permutations(&rest).into_iter().map(|order| [vec![first], order].concat());
+        all.extend(starting);
+    }
+    all
+}
+
+/// Event numbers as the bytes that an entry is given.
+pub fn bytes(events: &[usize]) -> Vec<u8> {
+    events.iter().map(|&event| event as u8).collect()
+}
+
+/// Makes the table state the values that an order gives.
+pub fn state_outcome(table: &mut Table, order: &[usize]) {
+    for (reader, write) in determined_returns(table, order).into_iter().enumerate() {
+        if let Some(write) = write {
+            table.events[reader].read = value_of(table, write, reader);
+        }
+    }
+    for location in 0..table.locations {
+        if names_location(table.stated, location) {
+            table.finals[location] = last_value(table, order, location);
+        }
+    }
+}

@@ -1,0 +1,309 @@
+//! The stored stream of `walks`.
+
+use super::breaches::{base, base_block, breaches};
+use super::orders::{bytes, lawful_order, linear_extension, permutation, state_outcome};
+use super::prng::Prng;
+use super::random::random_table;
+use crate::candidates::LEND;
+use crate::encode::encode;
+use crate::layout::*;
+use crate::litmus::{self, *};
+use crate::rules::steady_rules;
+use crate::search::{search, Answer, MAX_ALLOWANCE};
+use crate::stream::{push_frame, push_list};
+use crate::table::Table;
+use crate::walks::{Walk, SEARCH, WALK};
+
+const SEED: u64 = 3;
+/// Random tables, each walked in one way; their memory events are few, so that lists are
+/// short.
+const RANDOM_TABLES: usize = 560;
+const FEW_EVENTS: usize = 7;
+/// Tables of any size, of which a walk sees only the first prefixes.
+const LARGE_TABLES: usize = 30;
+/// No walk makes more calls than this.
+const MOST_CALLS: usize = 60;
+/// Calls of a table that aren't made to the end.
+const SOME_CALLS: usize = 8;
+
+/// The stream so far; the block lent last, with its table, and its walk.
+struct Calls {
+    stream: Vec<u8>,
+    block: Vec<u8>,
+    memory_events: usize,
+    walk: Walk,
+}
+
+impl Calls {
+    fn lend(&mut self, table: &Table) {
+        self.lend_bytes(encode(table), table.memory_events().len());
+    }
+
+    fn lend_bytes(&mut self, block: Vec<u8>, memory_events: usize) {
+        self.stream.push(LEND);
+        push_frame(&mut self.stream, &block);
+        self.block = block;
+        self.memory_events = memory_events;
+        self.walk = Walk::default();
+    }
+
+    fn search(&mut self, start: &[u8], buffer_length: usize, allowance: u64) {
+        self.stream.push(SEARCH);
+        push_list(&mut self.stream, start);
+        self.push_limits(buffer_length, allowance);
+    }
+
+    /// The walk's next call; says whether it answers none left.
+    fn walk(&mut self, buffer_length: usize, allowance: u64) -> bool {
+        self.stream.push(WALK);
+        self.push_limits(buffer_length, allowance);
+        let answer = self.walk.call(&self.block, &mut vec![0; buffer_length], allowance);
+        matches!(answer, Ok(Answer::NoneLeft { .. }))
+    }
+
+    fn push_limits(&mut self, buffer_length: usize, allowance: u64) {
+        self.stream.push(buffer_length as u8);
+        self.stream.extend(allowance.to_le_bytes());
+    }
+}
+
+pub fn make_walks() -> Vec<u8> {
+    let prng = &mut Prng::new(SEED);
+    let mut calls =
+        Calls { stream: Vec::new(), block: Vec::new(), memory_events: 0, walk: Walk::default() };
+    for (_, test) in litmus::all() {
+        for way in WAYS {
+            way(&mut calls, prng, &test);
+        }
+    }
+    for number in 0..RANDOM_TABLES {
+        let table = small_table(prng);
+        WAYS[number % WAYS.len()](&mut calls, prng, &table);
+    }
+    for _ in 0..LARGE_TABLES {
+        large_table_walk(&mut calls, prng);
+    }
+    unclean_starts(&mut calls);
+    refused_tables(&mut calls, prng);
+    calls.stream
+}
+
+/// Ways to walk a table.
+const WAYS: [fn(&mut Calls, &mut Prng, &Table); 7] = [
+    walk_by_witnesses,
+    walk_by_small_steps,
+    walk_by_single_steps,
+    walk_at_random,
+    edges_of_the_first_answer,
+    searches_from_clean_starts,
+    searches_from_any_starts,
+];
+
+/// A table with a short list of prefixes, and often with witnesses.
+fn small_table(prng: &mut Prng) -> Table {
+    let harts = 1 + prng.below(MAX_HARTS);
+    let locations = 1 + prng.below(3);
+    let events = 1 + prng.below(FEW_EVENTS);
+    let mut table = random_table(prng, harts, locations, events);
+    if !prng.one_in(3) {
+        if let Some(order) = lawful_order(prng, &table) {
+            state_outcome(&mut table, &order);
+        }
+    }
+    table
+}
+
+/// From witness to witness to the end, and two calls more.
+fn walk_by_witnesses(calls: &mut Calls, prng: &mut Prng, table: &Table) {
+    calls.lend(table);
+    let steps = (0..MOST_CALLS).map(|_| MAX_ALLOWANCE);
+    walk_to_the_end(calls, steps);
+    calls.walk(calls.memory_events, MAX_ALLOWANCE);
+    calls.walk(calls.memory_events, prng.below(3) as u64);
+}
+
+/// With small allowances to the end, then on with smaller ones.
+fn walk_by_small_steps(calls: &mut Calls, prng: &mut Prng, table: &Table) {
+    calls.lend(table);
+    let largest = *prng.pick(&[3, 10, 40]);
+    walk_to_the_end(calls, (0..MOST_CALLS).map(|_| prng.below(largest) as u64));
+    for allowance in [0, 1, 2] {
+        calls.walk(calls.memory_events, allowance);
+    }
+}
+
+/// One prefix a call.
+fn walk_by_single_steps(calls: &mut Calls, _: &mut Prng, table: &Table) {
+    calls.lend(table);
+    walk_to_the_end(calls, (0..MOST_CALLS).map(|_| 1));
+}
+
+fn walk_to_the_end(calls: &mut Calls, allowances: impl Iterator<Item = u64>) {
+    for allowance in allowances {
+        if calls.walk(calls.memory_events, allowance) {
+            return;
+        }
+    }
+}
+
+/// Any allowances and any buffers, refused ones too; mostly stopped short.
+fn walk_at_random(calls: &mut Calls, prng: &mut Prng, table: &Table) {
+    calls.lend(table);
+    for _ in 0..1 + prng.below(2 * SOME_CALLS) {
+        let buffer_length = any_buffer_length(prng, calls.memory_events);
+        calls.walk(buffer_length, any_allowance(prng));
+    }
+}
+
+/// Buffers just long enough, longer, too short.
+fn any_buffer_length(prng: &mut Prng, memory_events: usize) -> usize {
+    let longer = memory_events + prng.below(10);
+    *prng.pick(&[memory_events, memory_events, longer, longer, memory_events - 1, 0, 255])
+}
+
+fn any_allowance(prng: &mut Prng) -> u64 {
+    let (small, medium) = (prng.below(8) as u64, prng.below(100) as u64);
+    let choices = [0, 1, small, small, medium, medium, MAX_ALLOWANCE, MAX_ALLOWANCE + 1, u64::MAX];
+    *prng.pick(&choices)
+}
+
+/// The first answer's visited number as the allowance, and numbers next to it.
+fn edges_of_the_first_answer(calls: &mut Calls, _: &mut Prng, table: &Table) {
+    calls.lend(table);
+    let answer = search(&calls.block, &[], &mut [0; MAX_EVENTS], MAX_ALLOWANCE);
+    if let Ok(Answer::Found { visited, .. } | Answer::NoneLeft { visited }) = answer {
+        for allowance in [visited - 1, visited, visited + 1] {
+            calls.search(&[], calls.memory_events, allowance);
+        }
+        calls.walk(calls.memory_events, visited - 1);
+        calls.walk(calls.memory_events, 0);
+        calls.walk(calls.memory_events, 1);
+    }
+}
+
+/// Single searches from clean prefixes that no walk need reach; whole orders among them.
+fn searches_from_clean_starts(calls: &mut Calls, prng: &mut Prng, table: &Table) {
+    calls.lend(table);
+    for _ in 0..SOME_CALLS {
+        let order = bytes(&linear_extension(prng, table));
+        let length = prng.below(order.len() + 1);
+        let buffer_length = any_buffer_length(prng, order.len());
+        calls.search(&order[..length], buffer_length, any_allowance(prng));
+        calls.search(&order, order.len(), *prng.pick(&[0, 1, MAX_ALLOWANCE]));
+    }
+    // The greatest of all prefixes, with nothing after it.
+    let greatest = bytes(&greatest_order(table));
+    calls.search(&greatest, greatest.len(), 0);
+    calls.search(&greatest, greatest.len(), MAX_ALLOWANCE);
+    // Searches leave the walk where it is.
+    calls.walk(greatest.len(), 1);
+    calls.search(&greatest, greatest.len(), 1);
+    calls.walk(greatest.len(), 1);
+}
+
+/// Single searches from parts of random orders, most of which aren't clean.
+fn searches_from_any_starts(calls: &mut Calls, prng: &mut Prng, table: &Table) {
+    calls.lend(table);
+    for _ in 0..SOME_CALLS {
+        let order = bytes(&permutation(prng, table));
+        let length = prng.below(order.len() + 1);
+        let buffer_length = any_buffer_length(prng, order.len());
+        calls.search(&order[..length], buffer_length, any_allowance(prng));
+    }
+    calls.walk(calls.memory_events, any_allowance(prng));
+}
+
+/// Takes the highest-numbered event that may come next, each time.
+fn greatest_order(table: &Table) -> Vec<usize> {
+    let mut left = table.memory_events();
+    let mut order = Vec::new();
+    while !left.is_empty() {
+        let is_free = |&&b: &&usize| left.iter().all(|&a| steady_rules(table, a, b).is_empty());
+        let next = *left.iter().rev().find(is_free).expect("steady rules follow program order");
+        left.retain(|&event| event != next);
+        order.push(next);
+    }
+    order
+}
+
+/// A table of up to sixteen events, walked for some calls.
+fn large_table_walk(calls: &mut Calls, prng: &mut Prng) {
+    let harts = 1 + prng.below(MAX_HARTS);
+    let locations = 1 + prng.below(MAX_LOCATIONS);
+    let events = FEW_EVENTS + 1 + prng.below(MAX_EVENTS - FEW_EVENTS);
+    let mut table = random_table(prng, harts, locations, events);
+    // The first lawful order is likely far off; that of table order is met at once.
+    let table_order = table.memory_events();
+    state_outcome(&mut table, &table_order);
+    calls.lend(&table);
+    for _ in 0..SOME_CALLS {
+        let buffer_length = any_buffer_length(prng, calls.memory_events);
+        let allowance = *prng.pick(&[0, 1, 5, 17, 100, 300, MAX_ALLOWANCE + 1]);
+        calls.walk(buffer_length, allowance);
+    }
+}
+
+/// Each way of not being a clean prefix of C2. Its memory events are 0, 2, 3 and 5; 1 and 4
+/// are fences; 0 is before 2, and 3 before 5.
+const UNCLEAN_STARTS: [&[u8]; 19] = [
+    // No memory event.
+    &[1],
+    &[0, 4],
+    &[6],
+    &[16],
+    &[254],
+    &[0, 255],
+    &[128],
+    // Doubled.
+    &[0, 0],
+    &[0, 3, 0],
+    &[0, 2, 3, 3],
+    // A predecessor missing.
+    &[2],
+    &[3, 2],
+    &[0, 5],
+    // A predecessor standing after it.
+    &[2, 0],
+    &[3, 2, 0],
+    &[5, 3, 0, 2],
+    // Too long.
+    &[0, 2, 3, 5, 5],
+    &[0, 2, 3, 5, 6],
+    &[0; 255],
+];
+
+/// Line 15, alone and with lines 16 and 17, then these without it.
+fn unclean_starts(calls: &mut Calls) {
+    calls.lend(&c2());
+    for start in UNCLEAN_STARTS {
+        calls.search(start, calls.memory_events, MAX_ALLOWANCE);
+        calls.search(start, 0, MAX_ALLOWANCE);
+        calls.search(start, calls.memory_events, MAX_ALLOWANCE + 1);
+        calls.search(start, 0, u64::MAX);
+    }
+    calls.search(&[0, 3], calls.memory_events - 1, MAX_ALLOWANCE + 1);
+    calls.search(&[0, 3], calls.memory_events, MAX_ALLOWANCE + 1);
+    calls.search(&[0, 3], calls.memory_events, MAX_ALLOWANCE);
+}
+
+/// Walks on bytes that reading declines: every call is refused, and the start stays empty.
+fn refused_tables(calls: &mut Calls, prng: &mut Prng) {
+    let mut wrong_check = base_block();
+    wrong_check[CHECK_AT] ^= 1;
+    let mut blocks = vec![Vec::new(), base_block()[1..].to_vec(), wrong_check];
+    blocks.push(encode(&table(vec![fence(0, FULL)])));
+    for line in breaches().chunk_by(|a, b| a.line == b.line) {
+        let mut block = base_block();
+        prng.pick(line).apply(&mut block);
+        blocks.push(block);
+    }
+    let memory_events = base().memory_events().len();
+    for block in blocks {
+        calls.lend_bytes(block, memory_events);
+        for _ in 0..3 {
+            calls.walk(any_buffer_length(prng, memory_events), any_allowance(prng));
+        }
+        calls.search(&[0], memory_events, 1);
+        calls.search(&[255], 0, u64::MAX);
+    }
+}

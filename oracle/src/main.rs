@@ -1,0 +1,63 @@
+//! The reference program of the RVWMO bench. Its commands are listed in the README.
+
+mod candidate;
+mod candidates;
+mod encode;
+mod generate;
+mod layout;
+mod litmus;
+mod readings;
+mod rules;
+mod search;
+mod stream;
+mod suite;
+mod table;
+mod walks;
+
+use std::io::{self, Read, Write};
+use std::process::ExitCode;
+
+const USAGE: &str = "usage: oracle COMMAND
+where COMMAND is one of make-readings, readings, make-candidates, list-candidates, candidates,
+make-walks, walks, suite";
+
+fn main() -> ExitCode {
+    let command = std::env::args().nth(1).unwrap_or_default();
+    match run(&command) {
+        Ok(()) => ExitCode::SUCCESS,
+        Err(message) => {
+            eprintln!("oracle: {message}");
+            ExitCode::FAILURE
+        }
+    }
+}
+
+fn run(command: &str) -> Result<(), String> {
+    match command {
+        "make-readings" => print(&generate::readings::make_readings()),
+        "readings" => answer(readings::print_readings),
+        "make-candidates" => print(&generate::candidates::make_candidates().stream),
+        "list-candidates" => print(generate::candidates::list_candidates().as_bytes()),
+        "candidates" => answer(candidates::print_candidates),
+        "make-walks" => print(&generate::walks::make_walks()),
+        "walks" => answer(walks::print_walks),
+        "suite" => print(suite::print_suite(&standard_input()?).as_bytes()),
+        _ => Err(USAGE.to_string()),
+    }
+}
+
+/// Answers a stream on standard input with lines on standard output.
+fn answer(lines: fn(&[u8]) -> Result<String, stream::Malformed>) -> Result<(), String> {
+    let lines = lines(&standard_input()?).map_err(|_| "the input isn't such a stream")?;
+    print(lines.as_bytes())
+}
+
+fn standard_input() -> Result<Vec<u8>, String> {
+    let mut bytes = Vec::new();
+    io::stdin().read_to_end(&mut bytes).map_err(|error| error.to_string())?;
+    Ok(bytes)
+}
+
+fn print(bytes: &[u8]) -> Result<(), String> {
+    io::stdout().write_all(bytes).map_err(|error| error.to_string())
+}

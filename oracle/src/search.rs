@@ -1,0 +1,273 @@
+//! The search: the list of clean prefixes greater than a start, and the first witness in it.
+
+use crate::rules::{is_witness, steady_rules};
+use crate::table::{read, refuse_if, Line, Refusal, Table};
+use std::ops::ControlFlow;
+
+/// 17: "allowance above 1,000,000,000"
+pub const MAX_ALLOWANCE: u64 = 1_000_000_000;
+
+/// "The number visited is part of the answer: the witness's place counted from 1, the list's
+/// length, or B."
+#[derive(Clone, PartialEq, Eq, Debug)]
+pub enum Answer {
+    Found { visited: u64, order: Vec<usize> },
+    NoneLeft { visited: u64 },
+    Spent { visited: u64, prefix: Vec<usize> },
+}
+
+/// "Found writes the order; spent writes the last prefix visited; bytes past it stay; none
+/// left writes nothing."
+pub fn search(
+    block: &[u8],
+    start: &[u8],
+    buffer: &mut [u8],
+    allowance: u64,
+) -> Result<Answer, Refusal> {
+    let table = read(block)?;
+    let start: Vec<usize> = start.iter().map(|&event| event.into()).collect();
+    let prefixes = Prefixes::of(&table);
+    refuse_if(!prefixes.is_clean(&start), Line::Start)?;
+    refuse_if(buffer.len() < table.memory_events().len(), Line::Buffer)?;
+    refuse_if(allowance > MAX_ALLOWANCE, Line::Allowance)?;
+    let answer = Search::new(&table, &start, allowance).run(&prefixes);
+    if let Answer::Found { order: list, .. } | Answer::Spent { prefix: list, .. } = &answer {
+        for (byte, &event) in buffer.iter_mut().zip(list) {
+            *byte = event as u8;
+        }
+    }
+    Ok(answer)
+}
+
+/// What makes a table's prefixes clean: the memory events, each with its steady predecessors.
+struct Prefixes {
+    events: Vec<(usize, Vec<usize>)>,
+}
+
+impl Prefixes {
+    fn of(table: &Table) -> Prefixes {
+        let events = table.memory_events();
+        let is_before = |a: usize, b: usize| !steady_rules(table, a, b).is_empty();
+        let before = |b: usize| events.iter().copied().filter(|&a| is_before(a, b)).collect();
+        Prefixes { events: events.iter().map(|&b| (b, before(b))).collect() }
+    }
+
+    /// "A prefix is a list of different memory events. It is clean if no listed event has a
+    /// steady predecessor missing or standing after it." So each event may follow those
+    /// before it; the empty list is clean too.
+    fn is_clean(&self, list: &[usize]) -> bool {
+        list.iter().enumerate().all(|(place, &next)| {
+            let entry = self.events.iter().find(|(event, _)| *event == next);
+            entry.is_some_and(|(_, predecessors)| may_follow(&list[..place], next, predecessors))
+        })
+    }
+
+    /// Visits the clean extensions of a clean prefix, ascending. "To go deeper, the
+    /// lowest-numbered event that may come next is taken first."
+    fn descend(&self, prefix: &mut Vec<usize>, search: &mut Search) -> ControlFlow<Answer> {
+        for (event, predecessors) in &self.events {
+            if may_follow(prefix, *event, predecessors) {
+                prefix.push(*event);
+                search.meet(prefix)?;
+                self.descend(prefix, search)?;
+                prefix.pop();
+            }
+        }
+        ControlFlow::Continue(())
+    }
+}
+
+/// Whether an event is new to a prefix that has all its predecessors.
+fn may_follow(prefix: &[usize], event: usize, predecessors: &[usize]) -> bool {
+    !prefix.contains(&event) && predecessors.iter().all(|before| prefix.contains(before))
+}
+
+/// "From a start, the definition lists all nonempty clean prefixes greater than it,
+/// ascending."
+struct Search<'a> {
+    table: &'a Table,
+    memory_events: usize,
+    start: &'a [usize],
+    allowance: u64,
+    visited: u64,
+    /// "the last prefix visited (the start, if B is 0)"
+    last: Vec<usize>,
+}
+
+impl<'a> Search<'a> {
+    fn new(table: &'a Table, start: &'a [usize], allowance: u64) -> Search<'a> {
+        let memory_events = table.memory_events().len();
+        Search { table, memory_events, start, allowance, visited: 0, last: start.to_vec() }
+    }
+
+    /// "none left, if the list has at most B entries and no witness"
+    fn run(mut self, prefixes: &Prefixes) -> Answer {
+        match prefixes.descend(&mut Vec::new(), &mut self) {
+            ControlFlow::Break(answer) => answer,
+            ControlFlow::Continue(()) => Answer::NoneLeft { visited: self.visited },
+        }
+    }
+
+    /// Counts a clean prefix if it is in the list. "Prefixes are compared entry by entry, and
+    /// a prefix comes before its extensions", which is how slices compare.
+    fn meet(&mut self, prefix: &[usize]) -> ControlFlow<Answer> {
+        if prefix <= self.start {
+            return ControlFlow::Continue(());
+        }
+        if self.visited == self.allowance {
+            // One entry more than the allowance, and no witness so far.
+            let prefix = self.last.clone();
+            return ControlFlow::Break(Answer::Spent { visited: self.visited, prefix });
+        }
+        self.visited += 1;
+        self.last = prefix.to_vec();
+        if prefix.len() == self.memory_events && is_witness(self.table, prefix) {
+            let order = prefix.to_vec();
+            return ControlFlow::Break(Answer::Found { visited: self.visited, order });
+        }
+        ControlFlow::Continue(())
+    }
+}
+
+#[cfg(test)]
+mod tests {
+    use super::*;
+    use crate::encode::encode;
+    use crate::layout::MAX_EVENTS;
+    use crate::litmus::*;
+
+    fn run(test: &Table, start: &[u8], allowance: u64) -> Answer {
+        let mut buffer = [0; MAX_EVENTS];
+        search(&encode(test), start, &mut buffer, allowance).expect("no line refuses")
+    }
+
+    fn found(visited: u64, order: &[usize]) -> Answer {
+        Answer::Found { visited, order: order.to_vec() }
+    }
+
+    fn none_left(visited: u64) -> Answer {
+        Answer::NoneLeft { visited }
+    }
+
+    fn spent(visited: u64, prefix: &[usize]) -> Answer {
+        Answer::Spent { visited, prefix: prefix.to_vec() }
+    }
+
+    /// All witnesses, as a walk to its end hands them out.
+    fn witnesses(test: &Table) -> Vec<Vec<usize>> {
+        let mut all = Vec::new();
+        let mut start = Vec::new();
+        while let Answer::Found { order, .. } = run(test, &start, MAX_ALLOWANCE) {
+            start = order.iter().map(|&event| event as u8).collect();
+            all.push(order);
+        }
+        all
+    }
+
+    #[test]
+    fn c1_message_passing() {
+        let orders =
+            [[1, 2, 3, 0], [1, 3, 0, 2], [1, 3, 2, 0], [3, 0, 1, 2], [3, 1, 0, 2], [3, 1, 2, 0]];
+        assert_eq!(witnesses(&c1()), orders);
+        assert_eq!(run(&c1(), &[], MAX_ALLOWANCE), found(27, &[1, 2, 3, 0]));
+        assert_eq!(run(&c1(), &[3, 1, 2, 0], MAX_ALLOWANCE), none_left(5));
+    }
+
+    #[test]
+    fn c2_message_passing_with_fences() {
+        assert_eq!(run(&c2(), &[], MAX_ALLOWANCE), none_left(18));
+    }
+
+    #[test]
+    fn c3_store_buffering() {
+        assert_eq!(run(&c3(), &[], MAX_ALLOWANCE), found(27, &[1, 2, 3, 0]));
+    }
+
+    #[test]
+    fn c4_own_store() {
+        assert_eq!(witnesses(&c4(1)), [[0, 1], [1, 0]]);
+        assert_eq!(run(&c4(0), &[], MAX_ALLOWANCE), none_left(4));
+    }
+
+    #[test]
+    fn c5_load_after_amo() {
+        assert_eq!(witnesses(&c5()), [[0, 1]]);
+    }
+
+    #[test]
+    fn c6_coherence_of_two_loads() {
+        assert_eq!(run(&c6(), &[], MAX_ALLOWANCE), none_left(15));
+    }
+
+    #[test]
+    fn c7_foreign_store_and_a_pair() {
+        assert_eq!(run(&c7(1), &[], MAX_ALLOWANCE), none_left(8));
+        assert_eq!(run(&c7(2), &[], MAX_ALLOWANCE), found(3, &[0, 1, 2]));
+    }
+
+    #[test]
+    fn c8_own_store_and_a_pair() {
+        assert_eq!(witnesses(&c8()), [[0, 1, 2]]);
+    }
+
+    #[test]
+    fn c9_dependent_load() {
+        assert_eq!(witnesses(&c9_control()), [[4, 0, 2, 3]]);
+        assert_eq!(run(&c9_address(), &[], MAX_ALLOWANCE), none_left(18));
+    }
+
+    #[test]
+    fn c10_one_load() {
+        assert_eq!(run(&c10(), &[], MAX_ALLOWANCE), found(1, &[0]));
+        assert_eq!(witnesses(&c10()), [[0]]);
+    }
+
+    #[test]
+    fn the_papers_edges() {
+        assert_eq!(run(&c1(), &[], 26), spent(26, &[1, 2, 3]));
+        assert_eq!(run(&c1(), &[], 0), spent(0, &[]));
+        assert_eq!(run(&c1(), &[3, 2, 1, 0], 0), none_left(0));
+    }
+
+    #[test]
+    fn a_list_of_just_the_allowance_is_none_left() {
+        assert_eq!(run(&c2(), &[], 18), none_left(18));
+        assert!(matches!(run(&c2(), &[], 17), Answer::Spent { visited: 17, .. }));
+    }
+
+    #[test]
+    fn independent_accesses_have_e_times_factorial_prefixes() {
+        let loads = table((0..6).map(|_| load(0, X, 1)).collect());
+        let prefixes = (std::f64::consts::E * 720.0).floor() as u64 - 1;
+        assert_eq!(run(&loads, &[], MAX_ALLOWANCE), none_left(prefixes));
+    }
+
+    #[test]
+    fn the_lowest_line_refuses_a_search() {
+        let refusal = |start: &[u8], length: usize, allowance: u64| {
+            let mut buffer = [7; MAX_EVENTS];
+            let answer = search(&encode(&c2()), start, &mut buffer[..length], allowance);
+            assert_eq!(buffer, [7; MAX_EVENTS]);
+            answer.unwrap_err().line
+        };
+        let too_much = MAX_ALLOWANCE + 1;
+        for unclean in [&[1][..], &[6], &[255], &[0, 0], &[2], &[2, 0], &[0, 2, 3, 5, 5]] {
+            assert_eq!(refusal(unclean, 0, too_much), Line::Start);
+        }
+        assert_eq!(refusal(&[0, 2], 3, too_much), Line::Buffer);
+        assert_eq!(refusal(&[0, 2], 4, too_much), Line::Allowance);
+    }
+
+    #[test]
+    fn found_and_spent_write_and_bytes_past_it_stay() {
+        let block = encode(&c1());
+        let mut buffer = [7; 5];
+        search(&block, &[], &mut buffer, 26).expect("no line refuses");
+        assert_eq!(buffer, [1, 2, 3, 7, 7]);
+        search(&block, &[], &mut buffer, 27).expect("no line refuses");
+        assert_eq!(buffer, [1, 2, 3, 0, 7]);
+        let mut untouched = [7; 5];
+        search(&block, &[3, 1, 2, 0], &mut untouched, 27).expect("no line refuses");
+        assert_eq!(untouched, [7; 5]);
+    }
+}

@@ -1,0 +1,447 @@
+//! A test read from a block, and the lines 1 to 11 by which reading refuses one.
+
+use crate::layout::*;
+use std::fmt;
+
+/// "Kinds: 1 load, 2 store, 3 AMO, 4 LR, 5 SC, 6 fence, 7 fence.tso."
+#[derive(Clone, Copy, PartialEq, Eq, Debug)]
+pub enum Kind {
+    Load = 1,
+    Store = 2,
+    Amo = 3,
+    Lr = 4,
+    Sc = 5,
+    Fence = 6,
+    FenceTso = 7,
+}
+
+impl Kind {
+    pub const ALL: [Kind; 7] =
+        [Kind::Load, Kind::Store, Kind::Amo, Kind::Lr, Kind::Sc, Kind::Fence, Kind::FenceTso];
+
+    fn from_number(number: u8) -> Option<Kind> {
+        Kind::ALL.into_iter().find(|&kind| kind as u8 == number)
+    }
+}
+
+/// "Memory flags from bit 0: acquire-RCpc, acquire-RCsc, release-RCpc, release-RCsc."
+pub const ACQUIRE_RCPC: u8 = 1;
+pub const ACQUIRE_RCSC: u8 = 2;
+pub const RELEASE_RCPC: u8 = 4;
+pub const RELEASE_RCSC: u8 = 8;
+const ACQUIRES: u8 = ACQUIRE_RCPC | ACQUIRE_RCSC;
+const RELEASES: u8 = RELEASE_RCPC | RELEASE_RCSC;
+
+/// "Fence flags from bit 0: pr, pw, sr, sw"
+pub const PR: u8 = 1;
+pub const PW: u8 = 2;
+pub const SR: u8 = 4;
+pub const SW: u8 = 8;
+
+/// The largest flags, for memory events and fences alike.
+pub const ALL_FLAGS: u8 = 15;
+
+#[derive(Clone, PartialEq, Eq, Debug)]
+pub struct Event {
+    pub kind: Kind,
+    pub hart: usize,
+    pub location: usize,
+    pub flags: u8,
+    pub address: u16,
+    pub data: u16,
+    pub control: u16,
+    pub read: u16,
+    pub written: u16,
+}
+
+impl Event {
+    /// "Kinds 1, 3, 4 read"
+    pub fn reads(&self) -> bool {
+        matches!(self.kind, Kind::Load | Kind::Amo | Kind::Lr)
+    }
+
+    /// "kinds 2, 3, 5 write"
+    pub fn writes(&self) -> bool {
+        matches!(self.kind, Kind::Store | Kind::Amo | Kind::Sc)
+    }
+
+    pub fn is_fence(&self) -> bool {
+        matches!(self.kind, Kind::Fence | Kind::FenceTso)
+    }
+
+    pub fn is_memory(&self) -> bool {
+        !self.is_fence()
+    }
+
+    /// Flags of a fence mean other things, so only memory events have annotations.
+    pub fn has_acquire(&self) -> bool {
+        self.is_memory() && self.flags & ACQUIRES != 0
+    }
+
+    pub fn has_release(&self) -> bool {
+        self.is_memory() && self.flags & RELEASES != 0
+    }
+}
+
+#[derive(Clone, PartialEq, Eq, Debug)]
+pub struct Table {
+    pub harts: usize,
+    pub locations: usize,
+    pub stated: u8,
+    pub initial: [u16; MAX_LOCATIONS],
+    pub finals: [u16; MAX_LOCATIONS],
+    pub events: Vec<Event>,
+}
+
+/// "Bit k of a record's mask (bit 0 lowest) names event k"
+pub fn names(mask: u16, event: usize) -> bool {
+    mask >> event & 1 == 1
+}
+
+/// "bit k of byte 8 names location k"
+pub fn names_location(stated: u8, location: usize) -> bool {
+    stated >> location & 1 == 1
+}
+
+impl Table {
+    /// "Program order is table order within a hart."
+    pub fn in_program_order(&self, a: usize, b: usize) -> bool {
+        a < b && self.events[a].hart == self.events[b].hart
+    }
+
+    pub fn memory_events(&self) -> Vec<usize> {
+        (0..self.events.len()).filter(|&e| self.events[e].is_memory()).collect()
+    }
+
+    /// The LR that an SC is paired with: the SC's "nearest earlier LR or SC on its hart",
+    /// if that is "an LR to the same location".
+    pub fn paired_lr(&self, sc: usize) -> Option<usize> {
+        let nearest = (0..sc).rev().find(|&e| {
+            self.in_program_order(e, sc) && matches!(self.events[e].kind, Kind::Lr | Kind::Sc)
+        })?;
+        let pairs = self.events[nearest].kind == Kind::Lr
+            && self.events[nearest].location == self.events[sc].location;
+        pairs.then_some(nearest)
+    }
+}
+
+/// The lines of the paper's table of refusals; a line's value is its number.
+#[derive(Clone, Copy, PartialEq, Eq, Debug)]
+pub enum Line {
+    Length = 1,
+    Check = 2,
+    Marker = 3,
+    Edition = 4,
+    Ranges = 5,
+    Zeros = 6,
+    Fields = 7,
+    Annotations = 8,
+    Dependencies = 9,
+    Pairing = 10,
+    NoMemoryEvent = 11,
+    ListLength = 12,
+    OrderEvents = 13,
+    ReturnedEntries = 14,
+    Start = 15,
+    Buffer = 16,
+    Allowance = 17,
+}
+
+#[derive(Clone, Copy, PartialEq, Eq, Debug)]
+pub struct Refusal {
+    pub line: Line,
+    /// "within 7 to 10, its lowest record is named"
+    pub record: Option<usize>,
+}
+
+impl fmt::Display for Refusal {
+    fn fmt(&self, out: &mut fmt::Formatter) -> fmt::Result {
+        write!(out, "refused {}", self.line as u8)?;
+        match self.record {
+            Some(record) => write!(out, ", record {record}"),
+            None => Ok(()),
+        }
+    }
+}
+
+/// Refuses by a line that names no record.
+pub fn refuse_if(broken: bool, line: Line) -> Result<(), Refusal> {
+    if broken {
+        return Err(Refusal { line, record: None });
+    }
+    Ok(())
+}
+
+/// Refuses by a line that names the lowest record that breaks it.
+fn refuse_records(
+    table: &Table,
+    line: Line,
+    is_broken: fn(&Table, usize) -> bool,
+) -> Result<(), Refusal> {
+    match (0..table.events.len()).find(|&record| is_broken(table, record)) {
+        Some(record) => Err(Refusal { line, record: Some(record) }),
+        None => Ok(()),
+    }
+}
+
+/// "Exactly the lowest number whose line holds is given, or else none"
+pub fn read(block: &[u8]) -> Result<Table, Refusal> {
+    refuse_if(block.len() != BLOCK_LENGTH, Line::Length)?;
+    refuse_if(stored_check(block) != check(block), Line::Check)?;
+    refuse_if(!block.starts_with(&MARKER), Line::Marker)?;
+    refuse_if(block[EDITION_AT] != EDITION, Line::Edition)?;
+    refuse_if(ranges_broken(block), Line::Ranges)?;
+    refuse_if(zeros_broken(block), Line::Zeros)?;
+    let table = decode(block)?;
+    refuse_records(&table, Line::Annotations, annotations_broken)?;
+    refuse_records(&table, Line::Dependencies, dependencies_broken)?;
+    refuse_records(&table, Line::Pairing, pairing_broken)?;
+    refuse_if(table.memory_events().is_empty(), Line::NoMemoryEvent)?;
+    Ok(table)
+}
+
+/// 5: "harts, locations or events out of range, or the final mask names a location not in
+/// the test"
+fn ranges_broken(block: &[u8]) -> bool {
+    let (harts, locations, events) = counts(block);
+    !(1..=MAX_HARTS).contains(&harts)
+        || !(1..=MAX_LOCATIONS).contains(&locations)
+        || !(1..=MAX_EVENTS).contains(&events)
+        || (locations..MAX_LOCATIONS).any(|l| names_location(block[STATED_AT], l))
+}
+
+fn counts(block: &[u8]) -> (usize, usize, usize) {
+    (block[HARTS_AT].into(), block[LOCATIONS_AT].into(), block[EVENTS_AT].into())
+}
+
+/// 6: "a byte named zero isn't zero, also: initial values of locations not in the test,
+/// final values not stated, records past the events"
+fn zeros_broken(block: &[u8]) -> bool {
+    let (_, locations, events) = counts(block);
+    let unstated = |l: &usize| !names_location(block[STATED_AT], *l);
+    let mut zeros: Vec<usize> = HEADER_ZEROS.chain(TAIL_ZEROS).collect();
+    zeros.extend((0..MAX_EVENTS).flat_map(|e| field::ZEROS.map(move |at| record_at(e) + at)));
+    zeros.extend(initial_at(locations)..initial_at(MAX_LOCATIONS));
+    zeros.extend((0..MAX_LOCATIONS).filter(unstated).flat_map(|l| final_at(l)..final_at(l + 1)));
+    zeros.extend(record_at(events)..record_at(MAX_EVENTS));
+    zeros.into_iter().any(|at| block[at] != 0)
+}
+
+/// Decodes a block that lines 1 to 6 don't refuse; refuses by 7.
+fn decode(block: &[u8]) -> Result<Table, Refusal> {
+    let (harts, locations, events) = counts(block);
+    let mut table = Table {
+        harts,
+        locations,
+        stated: block[STATED_AT],
+        initial: std::array::from_fn(|l| word(block, initial_at(l))),
+        finals: std::array::from_fn(|l| word(block, final_at(l))),
+        events: Vec::new(),
+    };
+    for e in 0..events {
+        let decoded = decode_event(&block[record_at(e)..record_at(e + 1)]);
+        let in_range = decoded.filter(|event| !fields_broken(&table, event));
+        table.events.push(in_range.ok_or(Refusal { line: Line::Fields, record: Some(e) })?);
+    }
+    Ok(table)
+}
+
+/// The event of a record, or none if its kind is out of range.
+fn decode_event(record: &[u8]) -> Option<Event> {
+    Some(Event {
+        kind: Kind::from_number(record[field::KIND])?,
+        hart: record[field::HART].into(),
+        location: record[field::LOCATION].into(),
+        flags: record[field::FLAGS],
+        address: word(record, field::ADDRESS),
+        data: word(record, field::DATA),
+        control: word(record, field::CONTROL),
+        read: word(record, field::READ),
+        written: word(record, field::WRITTEN),
+    })
+}
+
+/// 7, but for the kind: "hart, location or flags out of range; a non-reader with a value
+/// read or a non-writer with a value written that isn't zero; a fence with location or mask
+/// not zero; flags on fence.tso"
+fn fields_broken(table: &Table, event: &Event) -> bool {
+    let out_of_range =
+        event.hart >= table.harts || event.location >= table.locations || event.flags > ALL_FLAGS;
+    let has_masks = event.address | event.data | event.control != 0;
+    out_of_range
+        || !event.reads() && event.read != 0
+        || !event.writes() && event.written != 0
+        || event.is_fence() && (event.location != 0 || has_masks)
+        || event.kind == Kind::FenceTso && event.flags != 0
+}
+
+/// 8: "both acquires or both releases at once; a reader with release and no acquire; a plain
+/// store or SC with acquire and no release"
+pub fn annotations_broken(table: &Table, record: usize) -> bool {
+    let event = &table.events[record];
+    let both_of = |flags: u8| event.is_memory() && event.flags & flags == flags;
+    let only_writes = matches!(event.kind, Kind::Store | Kind::Sc);
+    both_of(ACQUIRES)
+        || both_of(RELEASES)
+        || event.reads() && event.has_release() && !event.has_acquire()
+        || only_writes && event.has_acquire() && !event.has_release()
+}
+
+/// 9: "a mask names an event that isn't earlier on the same hart, or is a plain store or a
+/// fence; a data mask on a non-writer; a control mask with a bit that some later memory event
+/// of that hart lacks"
+fn dependencies_broken(table: &Table, record: usize) -> bool {
+    let event = &table.events[record];
+    let masks = event.address | event.data | event.control;
+    let names_wrong_event =
+        (0..MAX_EVENTS).any(|e| names(masks, e) && !may_be_depended_on(table, e, record));
+    let lacks_control = |later: usize| {
+        let other = &table.events[later];
+        table.in_program_order(record, later)
+            && other.is_memory()
+            && event.control & !other.control != 0
+    };
+    names_wrong_event
+        || event.data != 0 && !event.writes()
+        || (0..table.events.len()).any(lacks_control)
+}
+
+/// Whether a mask of `record` may name `source`: it is "an earlier event" on the same hart
+/// with a result, which plain stores and fences don't have.
+pub fn may_be_depended_on(table: &Table, source: usize, record: usize) -> bool {
+    source < table.events.len()
+        && table.in_program_order(source, record)
+        && matches!(table.events[source].kind, Kind::Load | Kind::Amo | Kind::Lr | Kind::Sc)
+}
+
+/// 10: "an SC whose nearest earlier LR or SC on its hart isn't an LR to the same location"
+fn pairing_broken(table: &Table, record: usize) -> bool {
+    table.events[record].kind == Kind::Sc && table.paired_lr(record).is_none()
+}
+
+#[cfg(test)]
+mod tests {
+    use super::*;
+    use crate::encode::{encode, seal};
+    use crate::litmus::*;
+
+    fn refused(line: Line) -> Result<Table, Refusal> {
+        Err(Refusal { line, record: None })
+    }
+
+    fn refused_at(line: Line, record: usize) -> Result<Table, Refusal> {
+        Err(Refusal { line, record: Some(record) })
+    }
+
+    fn read_events(events: Vec<Event>) -> Result<Table, Refusal> {
+        read(&encode(&table(events)))
+    }
+
+    /// C1's block with one byte changed and a good check.
+    fn c1_with(at: usize, value: u8) -> Vec<u8> {
+        let mut block = encode(&c1());
+        block[at] = value;
+        seal(&mut block);
+        block
+    }
+
+    #[test]
+    fn litmus_tests_are_read_as_they_were_written() {
+        for (_, test) in all() {
+            assert_eq!(read(&encode(&test)), Ok(test));
+        }
+    }
+
+    #[test]
+    fn the_check_is_at_most_32967930() {
+        let mut block = vec![255; BLOCK_LENGTH];
+        seal(&mut block);
+        assert_eq!(check(&block), 32_967_930);
+        assert_eq!(read(&block), refused(Line::Marker));
+    }
+
+    #[test]
+    fn sixteen_events_pass_and_seventeen_refuse_by_5() {
+        let mut block = encode(&table(vec![load(0, X, 0); MAX_EVENTS]));
+        assert!(read(&block).is_ok());
+        block[EVENTS_AT] = 17;
+        seal(&mut block);
+        assert_eq!(read(&block), refused(Line::Ranges));
+    }
+
+    #[test]
+    fn lengths_other_than_512_refuse_by_1() {
+        let block = encode(&c1()).repeat(2);
+        for length in [0, 1, 511, 513, 1024] {
+            assert_eq!(read(&block[..length]), refused(Line::Length));
+        }
+    }
+
+    #[test]
+    fn edition_9_with_a_good_check_refuses_by_4_and_with_a_bad_one_by_2() {
+        let mut block = c1_with(EDITION_AT, 9);
+        assert_eq!(read(&block), refused(Line::Edition));
+        block[CHECK_AT] ^= 1;
+        assert_eq!(read(&block), refused(Line::Check));
+    }
+
+    #[test]
+    fn the_final_mask_names_locations_of_the_test() {
+        assert!(read(&c1_with(STATED_AT, 0b11)).is_ok());
+        assert_eq!(read(&c1_with(STATED_AT, 0b100)), refused(Line::Ranges));
+    }
+
+    #[test]
+    fn bytes_named_zero_are_zero() {
+        for at in [9, 15, 304, 507, initial_at(2), final_at(0), record_at(4), record_at(0) + 14] {
+            assert_eq!(read(&c1_with(at, 1)), refused(Line::Zeros));
+        }
+    }
+
+    #[test]
+    fn a_fence_may_have_no_bits_and_fence_tso_has_none() {
+        assert!(read_events(vec![fence(0, 0), load(0, X, 0)]).is_ok());
+        let tso_with_bits = vec![load(0, X, 0), fence_tso(0).flags(PR)];
+        assert_eq!(read_events(tso_with_bits), refused_at(Line::Fields, 1));
+    }
+
+    #[test]
+    fn line_7_of_a_late_record_wins_over_line_8_of_an_early_one() {
+        let early = load(0, X, 0).flags(RELEASE_RCPC);
+        let late = load(0, X, 0).flags(ALL_FLAGS + 1);
+        assert_eq!(read_events(vec![early.clone()]), refused_at(Line::Annotations, 0));
+        assert_eq!(read_events(vec![early, late]), refused_at(Line::Fields, 1));
+    }
+
+    #[test]
+    fn an_amo_may_have_acquire_alone_but_not_release_alone() {
+        let with = |flags: u8| read_events(vec![amo(0, X, 0, 1).flags(flags)]);
+        assert!(with(ACQUIRE_RCPC).is_ok() && with(ACQUIRE_RCSC).is_ok());
+        assert_eq!(with(RELEASE_RCPC), refused_at(Line::Annotations, 0));
+        assert_eq!(with(RELEASE_RCSC), refused_at(Line::Annotations, 0));
+    }
+
+    #[test]
+    fn a_control_bit_is_kept_by_later_memory_events_but_not_by_fences() {
+        let first = vec![load(0, X, 0), load(0, Y, 0).control_from(0), fence(0, FULL)];
+        let without = [first.as_slice(), &[store(0, Y, 1)]].concat();
+        let with = [first.as_slice(), &[store(0, Y, 1).control_from(0)]].concat();
+        assert_eq!(read_events(without), refused_at(Line::Dependencies, 1));
+        assert!(read_events(with).is_ok());
+    }
+
+    #[test]
+    fn an_sc_pairs_with_the_nearest_lr() {
+        let (lr_x, sc_x) = (lr(0, X, 0), sc(0, X, 1));
+        let pairs = table(vec![lr_x.clone(), lr_x.clone(), sc_x.clone()]);
+        assert_eq!(pairs.paired_lr(2), Some(1));
+        let twice = vec![lr_x, sc_x.clone(), sc_x.clone()];
+        assert_eq!(read_events(twice), refused_at(Line::Pairing, 2));
+        assert_eq!(read_events(vec![sc_x]), refused_at(Line::Pairing, 0));
+    }
+
+    #[test]
+    fn fences_alone_refuse_by_11() {
+        assert_eq!(read_events(vec![fence(0, FULL), fence_tso(0)]), refused(Line::NoMemoryEvent));
+    }
+}
