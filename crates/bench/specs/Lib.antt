@@ -1,0 +1,3 @@
+pub mod Buffers
+pub mod Search
+pub mod Demand3

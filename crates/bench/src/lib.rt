@@ -1,0 +1,1 @@
+// The public entries on bytes. Each refuses for itself.
