@@ -69,3 +69,13 @@ unfolding xor
 xor-and true true = refl
 xor-and true false = refl
 xor-and false t = refl
+
+-- both sides of a disjunction that fails
+pub or-off : (s t : Bool) → (s || t) ≡ false → (s ≡ false) × (t ≡ false)
+or-off true t h = absurd (true≢false h)
+or-off false t h = (refl, h)
+
+-- "if s then t" as a test
+pub or-implied : (s t : Bool) → (s ≡ true → t ≡ true) → (not s || t) ≡ true
+or-implied true t f = f refl
+or-implied false t f = refl

@@ -7,7 +7,7 @@ use native.Mathlib.Nat.{le-of-suc-le-suc, eq-or-lt-of-le}
 use native.Mathlib.Numerals.{add-one}
 use native.Mathlib.Omega.{arith}
 use lib.ListN.{length, getD, take, drop, set, length-append, length-drop, List·getD-append}
-use lib.Seq.{take-suc-set, take-all, drop-cons, set-at, getD-at}
+use lib.Seq.{take-suc-set, take-all, drop-cons, set-at, getD-at, ext-getD}
 use Rattle.lists.specs.Filled.{upTo}
 
 pub length-upTo : {A : Type 0} (n : ℕ) (f : ℕ → A) → length (upTo n f) ≡ n
@@ -23,6 +23,11 @@ getD-upTo (suc n) f k d h =
     ⊎-elim (λ (e : k ≡ n). getD-at (upTo n f) (f n) [] d k (length-upTo n f ∙ sym e) ∙ ap f (sym e))
     (λ l. List·getD-append (upTo n f) (f n ∷ []) d k (omega (arith, length-upTo n f)) ∙ getD-upTo n f k d l)
     (eq-or-lt-of-le (le-of-suc-le-suc h))
+
+-- a list that agrees with f at each position is made from it
+pub upTo-same : {A : Type 0} (n : ℕ) (f : ℕ → A) (d : A) (l : List A) → length l ≡ n → ((k : ℕ) → k < n → getD l k d ≡ f k) → l ≡ upTo n f
+upTo-same n f d l e h =
+    ext-getD d l (upTo n f) (e ∙ sym (length-upTo n f)) (λ k i. h k (omega arith) ∙ sym (getD-upTo n f k d (omega arith)))
 
 -- an array: one more entry is filled
 pub upTo-more : {A : Type 0} (f : ℕ → A) (l : List A) (i : ℕ) {v : A} → i < length l → take i l ≡ upTo i f → v ≡ f i

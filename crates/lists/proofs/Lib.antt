@@ -2,5 +2,7 @@ pub mod BoolLaws
 pub mod ScanLaws
 pub mod SomeLaws
 pub mod ListLaws
-pub mod AscendingLaws
+pub mod MemberLaws
+pub mod DistinctLaws
 pub mod FilledLaws
+pub mod AscendingLaws

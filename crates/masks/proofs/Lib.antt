@@ -2,3 +2,5 @@ pub mod BitLaws
 pub mod PowerLaws
 pub mod SubsetLaws
 pub mod MaskOfLaws
+pub mod UnionLaws
+pub mod WithinLaws

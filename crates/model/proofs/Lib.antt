@@ -1,1 +1,3 @@
 pub mod WorkedCases
+pub mod PrefixLaws
+pub mod VerdictLaws

@@ -1,0 +1,8 @@
+pub mod NextLaws
+pub mod CleanLaws
+pub mod SiftLaws
+pub mod KeptLaws
+pub mod StateLaws
+pub mod LoadLaws
+pub mod EngineLaws
+pub mod StepLaws

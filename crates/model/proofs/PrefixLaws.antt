@@ -1,0 +1,178 @@
+-- The list of clean prefixes has each nonempty clean prefix once, ascending; and every witness is one of them.
+use Prim.Native.Nat.{ℕ, _<_}
+use native.Mathlib.Omega.{arith}
+use mathlib.Core.Path.{_≡_, refl, sym, ap, _∙_}
+use mathlib.Core.Bool.{Bool, true, false, not, _&&_, _||_, or-true, and-eq-true-iff}
+use mathlib.Core.List.{List, [], _∷_, _++_, Sublistᴰ, Sublistᴰ·slnil, Sublistᴰ·cons, Sublistᴰ·cons-cons}
+use mathlib.Core.Logic.{_↔_, _≢_}
+use lib.ListN.{length}
+use lib.Dec.{eqb, ltb}
+use borrow.Author.Tests.{ltb-true, lt-ltb, eqb-true, not-true, not-false}
+use Rattle.lists.specs.Below.{some, every, below}
+use Rattle.lists.specs.Lists.{all, any, keep, has, count, distinct, before}
+use Rattle.lists.specs.Ascending.{AllAbove, Ascending}
+use Rattle.lists.proofs.BoolLaws.{and-l, and-r, or-implied}
+use Rattle.lists.proofs.ListLaws.{_∈_, all-has}
+use Rattle.lists.proofs.MemberLaws.{has-all, has-left, has-keep, below-has, keep-only, keep-each}
+use Rattle.lists.proofs.DistinctLaws.{distinct-left, distinct-apart, before-left, distinct-count, pigeonhole}
+use Rattle.lists.proofs.SomeLaws.{some-found, none-at, every-at, at-every}
+use Rattle.prefixes.specs.Statements.{PrefixClosed}
+use Rattle.prefixes.proofs.ListedLaws.{rising-keep, listed-only, listed-each, listed-ascending, listed-nonempty}
+use Rattle.table.specs.declared.Table.{Table}
+use Rattle.table.specs.Events.{memory, memoryEvents, memoryCount}
+use Rattle.model.specs.Rules.{rules, staticRules, holds, mayOrder, ppo, staticPpo}
+use Rattle.model.specs.Returns.{returns}
+use Rattle.model.specs.Axioms.{breaksPpo, preservedOrder, loadValue, atomicity, valuesRead, finalValues}
+use Rattle.model.specs.Witness.{isMemoryEvent, isOrder, lawful, witness}
+use Rattle.model.specs.Prefixes.{isPrefix, predecessorsListed, clean, cleanPrefixes}
+
+-- some test of a list holds, if some test of a sublist does
+any-sublist : {l m : List Bool} → Sublistᴰ l m → any holds l ≡ true → any holds m ≡ true
+any-sublist Sublistᴰ·slnil h = h
+any-sublist (Sublistᴰ·cons {a = b} s) h = ap (λ (c : Bool). b || c) (any-sublist s h) ∙ or-true b
+any-sublist (Sublistᴰ·cons-cons {a = a} {b = b} {l₁ = l} {l₂ = m} e s) h = go a e h (any-sublist s)
+  where
+    go : (c : Bool) → c ≡ b → (c || any holds l) ≡ true → (any holds l ≡ true → any holds m ≡ true) → (b || any holds m) ≡ true
+    go true e h later = ap (λ (c : Bool). c || any holds m) (sym e)
+    go false e h later = ap (λ (c : Bool). b || c) (later h) ∙ or-true b
+
+-- an entry of both lists
+both : {b : Bool} {l m : List Bool} → Sublistᴰ l m → Sublistᴰ (b ∷ l) (b ∷ m)
+both s = Sublistᴰ·cons-cons refl s
+
+module _ (t : Table) where
+  -- the steady rules are among the thirteen
+  static-rules : (rf : List ℕ) (a b : ℕ) → Sublistᴰ (staticRules t a b) (rules t rf a b)
+  unfolding staticRules rules
+  static-rules rf a b =
+      both (Sublistᴰ·cons (Sublistᴰ·cons (both (both (both (both (both (both (both (both (Sublistᴰ·cons (both Sublistᴰ·slnil))))))))))))
+
+  -- static ppo is part of ppo, whatever was returned
+  pub static-ppo : (rf : List ℕ) (a b : ℕ) → staticPpo t a b ≡ true → ppo t rf a b ≡ true
+  unfolding staticPpo ppo
+  static-ppo rf a b h =
+      let r = and-eq-true-iff (mayOrder t a b) (any holds (staticRules t a b)) .0 h in
+      rw (r .0) (any-sublist (static-rules rf a b) (r .1))
+
+  -- the list of memory events has each
+  event-has : (e : ℕ) → isMemoryEvent t e ≡ true → has e (memoryEvents t) ≡ true
+  unfolding isMemoryEvent memoryEvents
+  event-has e h =
+      let r = and-eq-true-iff (ltb e (t .count)) (memory t e) .0 h in
+      has-keep (memory t) (below (t .count)) e (below-has (t .count) e (ltb-true e (t .count) (r .0))) (r .1)
+
+  -- what makes a list a clean prefix
+  record Clean (p : List ℕ) : Type 0 where
+    events : all (isMemoryEvent t) p ≡ true
+    different : distinct p ≡ true
+    in-order : (a e : ℕ) → a < t .count → has e p ≡ true → staticPpo t a e ≡ true → before p a e ≡ true
+
+  clean-has : (p : List ℕ) → clean t p ≡ true → Clean p
+  unfolding clean isPrefix predecessorsListed
+  clean-has p h = record {
+    events = q .0;
+    different = q .1;
+    in-order = λ a e l m s. rw s at (every-at (t .count) (λ b. not (staticPpo t b e) || before p b e) a
+        (all-has (predecessorsListed t p) p e (r .1) m) l);
+  }
+    where
+      r : (isPrefix t p ≡ true) × (all (predecessorsListed t p) p ≡ true)
+      r = and-eq-true-iff (isPrefix t p) (all (predecessorsListed t p) p) .0 h
+
+      q : (all (isMemoryEvent t) p ≡ true) × (distinct p ≡ true)
+      q = and-eq-true-iff (all (isMemoryEvent t) p) (distinct p) .0 (r .0)
+
+  has-clean : (p : List ℕ) → Clean p → clean t p ≡ true
+  unfolding clean isPrefix predecessorsListed
+  has-clean p c = rw (c .events, c .different) (has-all (predecessorsListed t p) p listed)
+    where
+      listed : (e : ℕ) → has e p ≡ true → predecessorsListed t p e ≡ true
+      listed e m = at-every (t .count) (λ a. not (staticPpo t a e) || before p a e)
+          (λ a l. or-implied (staticPpo t a e) (before p a e) (c .in-order a e l m))
+
+  -- a clean prefix without its last entry is clean
+  pub clean-closed : PrefixClosed (clean t)
+  clean-closed p x h = has-clean p (record {
+    events = has-all (isMemoryEvent t) p (λ e m. all-has (isMemoryEvent t) q e (c .events) (has-left e p (x ∷ []) m));
+    different = distinct-left p (x ∷ []) (c .different);
+    in-order = λ a e l m s.
+        sym (before-left p (x ∷ []) a e (distinct-apart p (x ∷ []) e (c .different) m))
+        ∙ c .in-order a e l (has-left e p (x ∷ []) m) s;
+  })
+    where
+      q : List ℕ
+      q = p ++ (x ∷ [])
+
+      c : Clean (p ++ (x ∷ []))
+      c = clean-has q h
+
+  -- listed are the nonempty clean prefixes
+  pub clean-listed : (p : List ℕ) → (p ∈ cleanPrefixes t) ↔ ((p ≢ []) × (clean t p ≡ true))
+  unfolding cleanPrefixes memoryCount
+  clean-listed p = (
+    λ m. let r = listed-only (clean t) (memoryEvents t) (memoryCount t) p m in (r .0, r .1),
+    λ h. each (h .0) (h .1) (clean-has p (h .1)),
+  )
+    where
+      each : p ≢ [] → clean t p ≡ true → Clean p → p ∈ cleanPrefixes t
+      each n h c =
+          let m : all (λ e. has e (memoryEvents t)) p ≡ true =
+              has-all (λ e. has e (memoryEvents t)) p (λ e i. event-has e (all-has (isMemoryEvent t) p e (c .events) i)) in
+          listed-each (clean t) (memoryEvents t) (memoryCount t) p clean-closed n h m (pigeonhole p (memoryEvents t) (c .different) m)
+
+  -- in ascending order, and so each once
+  pub clean-ascending : Ascending (cleanPrefixes t)
+  unfolding cleanPrefixes memoryEvents
+  clean-ascending = listed-ascending (clean t) (memoryEvents t) (memoryCount t) (rising-keep (memory t) (t .count))
+
+  -- none is empty
+  pub clean-nonempty : AllAbove [] (cleanPrefixes t)
+  unfolding cleanPrefixes
+  clean-nonempty = listed-nonempty (clean t) (memoryEvents t) (memoryCount t)
+
+  -- an order has each memory event once
+  order-once : (p : List ℕ) → isOrder t p ≡ true → (e : ℕ) → isMemoryEvent t e ≡ true → count e p ≡ 1
+  unfolding isOrder
+  order-once p h e m =
+      let r = and-eq-true-iff (all (isMemoryEvent t) p) (all (λ e. eqb (count e p) 1) (memoryEvents t)) .0 h in
+      eqb-true (count e p) 1 (all-has (λ e. eqb (count e p) 1) (memoryEvents t) e (r .1) (event-has e m))
+
+  -- an order that keeps preserved order is a clean prefix
+  order-clean : (p rf : List ℕ) → isOrder t p ≡ true → preservedOrder t rf p ≡ true → clean t p ≡ true
+  unfolding isOrder isMemoryEvent preservedOrder breaksPpo
+  order-clean p rf h k = has-clean p (record {
+    events = events;
+    different = distinct-count p (λ e m. omega (arith, order-once p h e (all-has (isMemoryEvent t) p e events m)));
+    in-order = λ a e l m s.
+        let n = none-at (t .count) (breaksPpo t rf p a) e
+            (none-at (t .count) (λ a. some (t .count) (breaksPpo t rf p a)) a (not-true _ k) l)
+            (ltb-true e (t .count) (and-l _ _ (all-has (isMemoryEvent t) p e events m))) in
+        not-false (before p a e) (rw (static-ppo rf a e s) at n);
+  })
+    where
+      events : all (isMemoryEvent t) p ≡ true
+      events = and-l _ _ h
+
+  -- what a witness is, of which the search uses no more
+  witness-order : (p : List ℕ) → witness t p ≡ true → (isOrder t p ≡ true) × (preservedOrder t (returns t p) p ≡ true)
+  unfolding witness lawful
+  witness-order p h = (search (and-l, and-r), search (and-l, and-r))
+
+  -- every witness is a clean prefix
+  pub witness-clean : (p : List ℕ) → witness t p ≡ true → clean t p ≡ true
+  witness-clean p h = let r = witness-order p h in order-clean p (returns t p) (r .0) (r .1)
+
+  -- no witness is empty, if there is a memory event
+  pub witness-nonempty : (p : List ℕ) → some (t .count) (memory t) ≡ true → witness t p ≡ true → p ≢ []
+  unfolding isMemoryEvent
+  witness-nonempty p s h e =
+      let r = some-found (t .count) (memory t) s in
+      let c = order-once p (witness-order p h .0) (r .0) (rw (lt-ltb (r .0) (t .count) (r .1)) (r .2)) in
+      let z : _≡_ {A = ℕ} 0 1 = ap (count (r .0)) (sym e) ∙ c in omega arith
+
+  -- the witnesses are those among the clean prefixes listed
+  pub witness-listed : (p : List ℕ) → some (t .count) (memory t) ≡ true → (p ∈ keep (witness t) (cleanPrefixes t)) ↔ (witness t p ≡ true)
+  witness-listed p s = (
+    λ m. keep-only (witness t) (cleanPrefixes t) p m .1,
+    λ h. keep-each (witness t) (cleanPrefixes t) p (clean-listed p .1 (witness-nonempty p s h, witness-clean p h)) h,
+  )

@@ -1,0 +1,49 @@
+-- The first line that holds of two lists of lines, one after the other.
+use Prim.Native.Nat.{ℕ}
+use native.Mathlib.Omega.{arith}
+use mathlib.Core.Path.{_≡_, refl, sym, ap, _∙_}
+use mathlib.Core.Bool.{Bool, true, false}
+use mathlib.Core.List.{List, [], _∷_, _++_}
+use mathlib.Core.Logic.{_≢_}
+use Rattle.lists.specs.Below.{lowest, some}
+use Rattle.refusals.specs.Lines.{Refused, accepted, byLine, byRecord, Line, whole, record-of, refusedIf, firstLine}
+
+-- a refusal, or else the next
+abbrev orNext : Refused → Refused → Refused
+orNext accepted next = next
+orNext (byLine k) next = byLine k
+orNext (byRecord k i) next = byRecord k i
+
+-- the first of both lists is that of the first, or else that of the second
+first-of-both : (n : ℕ) (ls ms : List Line) → firstLine n (ls ++ ms) ≡ orNext (firstLine n ls) (firstLine n ms)
+unfolding firstLine
+first-of-both n [] ms = refl
+first-of-both n (whole k b ∷ ls) ms =
+    elim b as (λ c. refusedIf c (byLine k) (firstLine n (ls ++ ms)) ≡ orNext (refusedIf c (byLine k) (firstLine n ls)) (firstLine n ms))
+    [ true ↦ refl | false ↦ first-of-both n ls ms ]
+first-of-both n (record-of k f ∷ ls) ms =
+    let r : Refused = byRecord k (lowest n f) in
+    elim (some n f) as (λ c. refusedIf c r (firstLine n (ls ++ ms)) ≡ orNext (refusedIf c r (firstLine n ls)) (firstLine n ms))
+    [ true ↦ refl | false ↦ first-of-both n ls ms ]
+
+-- where the two lists together refuse nothing, neither does
+pub passed-both : (n : ℕ) (ls ms : List Line) → firstLine n (ls ++ ms) ≡ accepted → (firstLine n ls ≡ accepted) × (firstLine n ms ≡ accepted)
+passed-both n ls ms h = go (firstLine n ls) (sym (first-of-both n ls ms) ∙ h)
+  where
+    go : (r : Refused) → orNext r (firstLine n ms) ≡ accepted → (r ≡ accepted) × (firstLine n ms ≡ accepted)
+    go accepted e = (refl, e)
+    go (byLine k) e = let z : _≡_ {A = ℕ} 0 1 = cc in absurd (omega arith)
+    go (byRecord k i) e = let z : _≡_ {A = ℕ} 0 1 = cc in absurd (omega arith)
+
+-- a refusal by the first list stands
+pub refused-first : (n : ℕ) (ls ms : List Line) → firstLine n ls ≢ accepted → firstLine n (ls ++ ms) ≡ firstLine n ls
+refused-first n ls ms h = first-of-both n ls ms ∙ go (firstLine n ls) h
+  where
+    go : (r : Refused) → r ≢ accepted → orNext r (firstLine n ms) ≡ r
+    go accepted h = absurd (h refl)
+    go (byLine k) h = refl
+    go (byRecord k i) h = refl
+
+-- where the first list refuses nothing, the second decides
+pub passed-first : (n : ℕ) (ls ms : List Line) → firstLine n ls ≡ accepted → firstLine n (ls ++ ms) ≡ firstLine n ms
+passed-first n ls ms h = first-of-both n ls ms ∙ ap (λ (r : Refused). orNext r (firstLine n ms)) h

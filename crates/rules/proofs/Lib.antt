@@ -1,0 +1,4 @@
+pub mod MaskLaws
+pub mod FromLaws
+pub mod RuleLaws
+pub mod EventTests

@@ -1,0 +1,90 @@
+use Rattle.model.specs.Rules.{rule1, rule5, rule6, rule7, rule9, rule10, rule11}
+use Rattle.rules.proofs.RuleLaws.{held}
+use Rattle.rules.proofs.EventTests.{ofEvents}
+use borrow.Author.Needs.{needs}
+use Rattle.rules.proofs.in_places.Statement.{statement}
+use Rattle.rules.proofs.in_places.Tie as tie
+
+cast-x : tie.Need-cast-x
+cast-x c = search needs
+
+mul-x : tie.Need-mul-x
+mul-x c = search needs
+
+element-copy-out-x : tie.Need-element-copy-out-x
+element-copy-out-x c = search needs
+
+cast-y : tie.Need-cast-y
+cast-y c = search needs
+
+mul-y : tie.Need-mul-y
+mul-y c = search needs
+
+element-copy-out-y : tie.Need-element-copy-out-y
+element-copy-out-y c = search needs
+
+rule1-requires : tie.Need-rule1-requires
+rule1-requires c κs = search needs
+
+rule4-requires : tie.Need-rule4-requires
+rule4-requires c κs = search needs
+
+rule5-requires : tie.Need-rule5-requires
+rule5-requires c κs = search needs
+
+rule6-requires : tie.Need-rule6-requires
+rule6-requires c κs = search needs
+
+rule7-requires : tie.Need-rule7-requires
+rule7-requires c κs = search needs
+
+rule8-requires : tie.Need-rule8-requires
+rule8-requires c κs = search needs
+
+rule9-requires : tie.Need-rule9-requires
+rule9-requires c κs = search needs
+
+rule10-requires : tie.Need-rule10-requires
+rule10-requires c κs = search needs
+
+rule11-requires : tie.Need-rule11-requires
+rule11-requires c κs = search needs
+
+rule13-requires : tie.Need-rule13-requires
+rule13-requires c κs = search needs
+
+returns : tie.Need-returns
+unfolding rule1 rule5 rule6 rule7 rule9 rule10 rule11 ofEvents
+returns c =
+    let c11 = c .before in
+    let c10 = c11 .before in
+    let c9 = c10 .before in
+    let c8 = c9 .before in
+    let c7 = c8 .before in
+    let c6 = c7 .before in
+    let c5 = c6 .before in
+    let c4 = c5 .before in
+    held _ _ _ _ _ _ (c4 .before .rule1 .ensures) (c4 .rule4 .ensures) (c5 .rule5 .ensures) (c6 .rule6 .ensures) (c7 .rule7 .ensures)
+    (c8 .rule8 .ensures) (c9 .rule9 .ensures) (c10 .rule10 .ensures) (c11 .rule11 .ensures) (c .rule13 .ensures)
+
+pub in-places-spec : {M : Type 1} → statement M
+in-places-spec =
+    tie.close
+    (tie.spec
+    cast-x
+    mul-x
+    element-copy-out-x
+    cast-y
+    mul-y
+    element-copy-out-y
+    rule1-requires
+    rule4-requires
+    rule5-requires
+    rule6-requires
+    rule7-requires
+    rule8-requires
+    rule9-requires
+    rule10-requires
+    rule11-requires
+    rule13-requires
+    returns)

@@ -1,0 +1,19 @@
+use borrow.Author.Needs.{needs}
+use Rattle.rules.proofs.may_order.Statement.{statement}
+use Rattle.rules.proofs.may_order.Tie as tie
+
+program-order-requires : tie.Need-program-order-requires
+program-order-requires c κs = search needs
+
+memory-requires : tie.Need-memory-requires
+memory-requires c κs = search needs
+
+memory-requires-2 : tie.Need-memory-requires-2
+memory-requires-2 c κs = search needs
+
+returns : tie.Need-returns
+returns c = cc
+
+pub may-order-spec : {M : Type 1} → statement M
+may-order-spec =
+    tie.close (tie.spec program-order-requires memory-requires memory-requires-2 returns)

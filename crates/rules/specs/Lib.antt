@@ -1,0 +1,2 @@
+pub mod RuleMask
+pub mod Between
