@@ -1,3 +1,2 @@
-pub mod Buffers
 pub mod Search
 pub mod Demand3

@@ -1,49 +1,35 @@
 -- Laws of clean lists over masks.
-use Prim.Native.Nat.{ℕ, zero, suc, _+_, _^_, _≤_, _<_}
+use Prim.Native.Nat.{ℕ, _+_, _^_, _≤_}
 use native.Mathlib.Omega.{arith}
 use native.Mathlib.Nat.{add-zero}
-use mathlib.Core.Path.{_≡_, refl, sym, ap, ap₂, _∙_}
-use mathlib.Core.Bool.{Bool, true, false, not, _&&_, _||_, and-assoc, and-true, and-false, or-true, true≢false, false≢true}
+use mathlib.Core.Path.{_≡_, refl, sym, ap, _∙_}
+use mathlib.Core.Bool.{Bool, true, false, not, _&&_, and-assoc, and-true, and-false}
 use mathlib.Core.List.{List, [], _∷_, _++_}
-use mathlib.Core.Logic.{_≢_, _↔_}
 use lib.ListN.{length}
-use lib.Dec.{eqb, ltb}
-use lib.Bits.{bitAnd, bitOr, or-comm, or-zero-l, or-zero-r, and-le-r}
+use lib.Bits.{bitOr, or-comm, or-zero-l, or-zero-r}
 use lib.Count.{ones}
-use borrow.Author.Tests.{eqb-true, eqb-false, eq-eqb, ltb-true, ltb-false, not-true}
-use Rattle.lists.specs.Below.{upFrom, below}
-use Rattle.lists.specs.Lists.{all, has, kept, keep}
-use Rattle.lists.specs.Ascending.{Ascending}
+use borrow.Author.Tests.{not-true}
+use Rattle.lists.specs.Lists.{all}
 use Rattle.lists.proofs.BoolLaws.{and-l, and-r}
-use Rattle.lists.proofs.ListLaws.{_∈_, all-has}
+use Rattle.lists.proofs.ListLaws.{all-has}
 use Rattle.masks.specs.Bit.{bit}
 use Rattle.masks.specs.MaskOf.{maskOf}
-use Rattle.masks.proofs.BitLaws.{bit-past}
 use Rattle.masks.proofs.PowerLaws.{lt-pow, ones-or}
-use Rattle.masks.proofs.SubsetLaws.{subset}
 use Rattle.masks.proofs.MaskOfLaws.{mask-has}
 use Rattle.masks.proofs.UnionLaws.{union-assoc}
 use Rattle.masks.proofs.WithinLaws.{ones-within}
 use Rattle.prefixes.specs.Statements.{PrefixClosed}
-use Rattle.prefixes.proofs.ListedLaws.{rising-keep, listed-only, listed-each, listed-ascending}
-use Rattle.engine.specs.CleanMasks.{slots, limit, ready, mayFollow, cleanFrom, cleanBy, masked}
+use Rattle.engine.specs.CleanMasks.{ready, mayFollow, cleanFrom, cleanBy}
 
 -- to place e, then the rest, is to place e with the rest
 placed-then : (placed e : ℕ) (p : List ℕ) → bitOr (bitOr placed (2 ^ e)) (maskOf p) ≡ bitOr placed (maskOf (e ∷ p))
 unfolding maskOf
 placed-then placed e p = union-assoc placed (2 ^ e) (maskOf p) ∙ ap (bitOr placed) (or-comm (2 ^ e) (maskOf p))
 
+-- no bit of 0 is set
 ones-zero : ones 0 ≡ 0
 unfolding ones
 ones-zero = refl
-
--- a bit that is set is below the width
-pub bit-below : (w m k : ℕ) → m < 2 ^ w → bit m k ≡ true → k < w
-bit-below w m k h i = go (ltb k w) refl
-  where
-    go : (b : Bool) → ltb k w ≡ b → k < w
-    go true e = ltb-true k w e
-    go false e = absurd (true≢false (sym i ∙ bit-past w m k h (ltb-false k w e)))
 
 module _ (preds : List ℕ) (mem : ℕ) where
   -- what may follow is an event

@@ -1,7 +1,7 @@
 -- The mask of the events that may come next, kept as events are placed and taken back.
-use Prim.Native.Nat.{ℕ, _^_, _<_}
+use Prim.Native.Nat.{ℕ, _^_}
 use mathlib.Core.Path.{_≡_, refl, sym, ap, ap₂, _∙_}
-use mathlib.Core.Bool.{Bool, true, false, not, _&&_, _||_, xor, or-false, or-true, and-false, true≢false}
+use mathlib.Core.Bool.{Bool, true, false, not, _&&_, _||_, xor, or-false, or-true, true≢false}
 use mathlib.Core.List.{List}
 use lib.ListN.{getD}
 use lib.Dec.{eqb}
@@ -9,7 +9,7 @@ use lib.Bits.{bitAnd, bitOr, bitXor}
 use borrow.Author.Tests.{eqb-true, eq-eqb, not-true}
 use Rattle.lists.proofs.BoolLaws.{and-l, and-r, bool-ext}
 use Rattle.masks.specs.Bit.{bit}
-use Rattle.masks.proofs.BitLaws.{bit-and, bit-or, bit-xor, bit-pow}
+use Rattle.masks.proofs.BitLaws.{bit-and, bit-or, bit-xor}
 use Rattle.masks.proofs.PowerLaws.{lt-pow}
 use Rattle.masks.proofs.SubsetLaws.{subset}
 use Rattle.engine.specs.CleanMasks.{ready, mayFollow}
@@ -103,7 +103,8 @@ module _ (preds : List ℕ) (mem : ℕ) where
       placedNow : bit now k ≡ (bit placed k || eqb e k)
       placedNow = ap (λ (x : ℕ). bit x k) q ∙ bit-with placed e b k p
 
-      rest : bit (bitAnd waits (bitXor mem (bitAnd mem now))) k ≡ (bit mem k && d && xor (bit mem k) (bit mem k && (bit placed k || eqb e k)))
+      rest : bit (bitAnd waits (bitXor mem (bitAnd mem now))) k
+          ≡ (bit mem k && d && xor (bit mem k) (bit mem k && (bit placed k || eqb e k)))
       rest =
           bit-and waits (bitXor mem (bitAnd mem now)) k
           ∙ ap₂ (λ (x y : Bool). x && y) (t k)
@@ -115,7 +116,8 @@ module _ (preds : List ℕ) (mem : ℕ) where
           ∙ ap (λ (x : ℕ). ready preds x k && not d) (sym (q ∙ ap (bitOr placed) p))
 
       go : (x : Bool) → eqb e k ≡ x →
-          (xor (bit can k) x || (bit mem k && d && xor (bit mem k) (bit mem k && (bit placed k || x)) && w)) ≡ (bit mem k && not (bit placed k || x) && w)
+          (xor (bit can k) x || (bit mem k && d && xor (bit mem k) (bit mem k && (bit placed k || x)) && w))
+          ≡ (bit mem k && not (bit placed k || x) && w)
       go true i =
           ap (λ (c : Bool). xor c true || (bit mem k && d && xor (bit mem k) (bit mem k && (bit placed k || true)) && w))
           (ap (bit can) (sym (eqb-true e k i)) ∙ h)

@@ -1,4 +1,3 @@
-pub mod NextLaws
 pub mod CleanLaws
 pub mod SiftLaws
 pub mod KeptLaws
@@ -6,3 +5,4 @@ pub mod StateLaws
 pub mod LoadLaws
 pub mod EngineLaws
 pub mod StepLaws
+pub mod SearchLaws

@@ -9,12 +9,13 @@ ghost use mathlib.Core.Bool.{true, _&&_};
 ghost use lib.ListN.{length, getD};
 ghost use lib.Bits.{bitAnd, bitOr, bitXor};
 ghost use Rattle.masks.specs.Bit.{bit};
-ghost use Rattle.engine.specs.CleanMasks.{slots, limit, ready, mayFollow};
+ghost use Rattle.engine.specs.CleanMasks.{slots, limit, ready};
 ghost use Rattle.engine.specs.State.{Waiting, Prepared, Current, Holds, LoadedAs, NextIs};
 
 // The bits of a mask, and the entries of an order.
 pub const SLOTS: usize = 32;
 
+// Of a prefix: its events, and those that may come next.
 pub struct Masks {
     pub placed: u32,
     pub can: u32,
@@ -28,7 +29,12 @@ pub enum Loaded {
 
 pub enum Step {
     // The next prefix: the first `keep` entries of the order, then `event`.
-    Place { keep: usize, event: u8, placed: u32, can: u32 },
+    Place {
+        keep: usize,
+        event: u8,
+        placed: u32,
+        can: u32,
+    },
     End,
 }
 
@@ -50,7 +56,7 @@ fn waiting(pred: &[u32; SLOTS], mem: u32, e: u32) -> u32
     found
 }
 
-// The events of `rest` that are ready. Only those are looked at.
+// The events of `rest` that are ready. No other is looked at.
 fn ready_of(pred: &[u32; SLOTS], rest: u32, placed: u32) -> u32
     ensures { λ r. ⌜ ((k : ℕ) → bit r k ≡ (bit rest k && ready (now (pred .entry)) placed k)) ⌝ }
 {
@@ -88,16 +94,23 @@ fn place(pred: &[u32; SLOTS], succ: &[u32; SLOTS], mem: u32, e: u32, placed: u32
     let after = placed | b;
     let rest = mem ^ (mem & after);
     let found = ready_of(pred, succ[e as usize] & rest, after);
-    Masks { placed: after, can: (can ^ b) | found }
+    Masks {
+        placed: after,
+        can: (can ^ b) | found,
+    }
 }
 
 // The masks once `e`, the last that was placed, is taken back: those that wait for it may not come next, and it may.
 fn take_back(succ: &[u32; SLOTS], e: u32, placed: u32, can: u32) -> Masks
     requires { ⌜ e < slots ⌝ }
-    ensures { λ r. ⌜ (r .placed ≡ bitXor placed (2 ^ e)) × (r .can ≡ bitOr (bitXor can (bitAnd can (getD (now (succ .entry)) e 0))) (2 ^ e)) ⌝ }
+    ensures { λ r. ⌜ r .placed ≡ bitXor placed (2 ^ e) ⌝ }
+    ensures { λ r. ⌜ r .can ≡ bitOr (bitXor can (bitAnd can (getD (now (succ .entry)) e 0))) (2 ^ e) ⌝ }
 {
     let b = one(e);
-    Masks { placed: placed ^ b, can: (can ^ (can & succ[e as usize])) | b }
+    Masks {
+        placed: placed ^ b,
+        can: (can ^ (can & succ[e as usize])) | b,
+    }
 }
 
 // The bits of `m` past bit `e`.
@@ -119,8 +132,14 @@ fn may(m: u32, e: u8) -> bool
     }
 }
 
-// Reads a start into the front of `order`, if it is clean.
-pub fn load(pred: &[u32; SLOTS], succ: &[u32; SLOTS], mem: u32, start: &[u8], order: &mut [u8; SLOTS]) -> Loaded
+// Reads a start into the front of `order`, if it is clean. What stands behind it in `order` is of no account.
+pub fn load(
+    pred: &[u32; SLOTS],
+    succ: &[u32; SLOTS],
+    mem: u32,
+    start: &[u8],
+    order: &mut [u8; SLOTS],
+) -> Loaded
     requires { ⌜ Prepared (now pred) (now succ) mem × (length (now order) ≡ slots) ⌝ }
     ensures { λ r. ⌜ LoadedAs (now (pred .entry)) mem (now (start .entry)) (now (order .exit)) r ⌝ }
 {
@@ -141,8 +160,17 @@ pub fn load(pred: &[u32; SLOTS], succ: &[u32; SLOTS], mem: u32, start: &[u8], or
     Loaded::Ready { len, placed, can }
 }
 
-// The next clean prefix: the lowest event that may come next, or, where none may, the next past the last one that can be replaced.
-pub fn next(pred: &[u32; SLOTS], succ: &[u32; SLOTS], mem: u32, order: &[u8; SLOTS], len: usize, placed: u32, can: u32) -> Step
+// The next clean prefix, in ascending order: with the lowest event that may come next behind it; where none may, entries
+// are taken back until a higher event can stand in the place of one.
+pub fn next(
+    pred: &[u32; SLOTS],
+    succ: &[u32; SLOTS],
+    mem: u32,
+    order: &[u8; SLOTS],
+    len: usize,
+    placed: u32,
+    can: u32,
+) -> Step
     requires { ⌜ Prepared (now pred) (now succ) mem × Holds (now pred) mem (now order) len placed can ⌝ }
     ensures { λ r. ⌜ NextIs (now (pred .entry)) mem (now (order .entry)) len r ⌝ }
 {
@@ -160,5 +188,10 @@ pub fn next(pred: &[u32; SLOTS], succ: &[u32; SLOTS], mem: u32, order: &[u8; SLO
     }
     let e = lowest_set(later);
     let after = place(pred, succ, mem, e, masks.placed, masks.can);
-    Step::Place { keep, event: e as u8, placed: after.placed, can: after.can }
+    Step::Place {
+        keep,
+        event: e as u8,
+        placed: after.placed,
+        can: after.can,
+    }
 }

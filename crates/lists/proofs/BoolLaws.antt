@@ -12,6 +12,27 @@ pub and-left : (a b : Bool) → a ≡ false → false ≡ (a && b)
 and-left true b h = absurd (true≢false h)
 and-left false b h = refl
 
+-- the first of three tests that passed drops out
+pub and-taken3 : (a b d : Bool) → a ≡ true → (b && d) ≡ (a && b && d)
+and-taken3 true b d h = refl
+and-taken3 false b d h = absurd (false≢true h)
+
+-- not both: the first failed, or what says that the second did
+pub not-both : (a s : Bool) → (not a || s) ≡ not (a && not s)
+not-both true true = refl
+not-both true false = refl
+not-both false s = refl
+
+-- the second test failed
+pub and-right : (a b : Bool) → b ≡ false → (a && b) ≡ false
+and-right true b h = h
+and-right false b h = refl
+
+-- both tests passed
+pub and-both : (a b : Bool) → a ≡ true → b ≡ true → (a && b) ≡ true
+and-both true b h k = k
+and-both false b h k = h
+
 -- a test that passed decides a disjunction
 pub or-taken : (a b : Bool) → a ≡ true → true ≡ (a || b)
 or-taken true b h = refl

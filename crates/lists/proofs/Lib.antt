@@ -3,6 +3,9 @@ pub mod ScanLaws
 pub mod SomeLaws
 pub mod ListLaws
 pub mod MemberLaws
+pub mod KeepLaws
+pub mod BetweenLaws
 pub mod DistinctLaws
+pub mod TakeLaws
 pub mod FilledLaws
 pub mod AscendingLaws

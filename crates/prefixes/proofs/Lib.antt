@@ -1,3 +1,4 @@
 pub mod ListedLaws
 pub mod AnswerLaws
 pub mod WalkLaws
+pub mod NextLaws

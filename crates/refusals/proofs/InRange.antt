@@ -1,19 +1,13 @@
 -- What a table that line 5 doesn't refuse has.
-use Prim.Native.Nat.{ℕ, _≤_, _<_}
-use mathlib.Core.Path.{_≡_, refl, sym, ap, _∙_}
-use mathlib.Core.Bool.{Bool, true, false, _||_}
-use mathlib.Core.Logic.{_⊎_}
-use native.Mathlib.Omega.{arith}
-use borrow.Author.Tests.{ltb-false, eqb-false}
+use Prim.Native.Nat.{ℕ, _≤_}
+use mathlib.Core.Path.{_≡_}
+use mathlib.Core.Bool.{false, _||_}
+use borrow.Author.Tests.{ltb-false}
 use lib.Dec.{eqb, ltb}
+use Rattle.lists.proofs.BoolLaws.{or-off}
 use Rattle.edition.specs.Limits.{maxHarts, maxLocations, maxEvents}
 use Rattle.table.specs.declared.Table.{Table}
 use Rattle.refusals.specs.TableLines.{outside, line5, statesMissing}
-
--- both sides of a disjunction that fails
-or-off : (a b : Bool) → (a || b) ≡ false → (a ≡ false) × (b ≡ false)
-or-off true b h = (h, absurd (mathlib.Core.Bool.true≢false h))
-or-off false b h = (refl, h)
 
 -- the three counts are in range
 pub record InRange (t : Table) : Type 0 where

@@ -2,7 +2,7 @@
 use Prim.Native.Nat.{ℕ}
 use native.Mathlib.Omega.{arith}
 use mathlib.Core.Path.{_≡_, refl, sym, ap, _∙_}
-use mathlib.Core.Bool.{Bool, true, false}
+use mathlib.Core.Bool.{true, false}
 use mathlib.Core.List.{List, [], _∷_, _++_}
 use mathlib.Core.Logic.{_≢_}
 use Rattle.lists.specs.Below.{lowest, some}
@@ -27,7 +27,8 @@ first-of-both n (record-of k f ∷ ls) ms =
     [ true ↦ refl | false ↦ first-of-both n ls ms ]
 
 -- where the two lists together refuse nothing, neither does
-pub passed-both : (n : ℕ) (ls ms : List Line) → firstLine n (ls ++ ms) ≡ accepted → (firstLine n ls ≡ accepted) × (firstLine n ms ≡ accepted)
+pub passed-both : (n : ℕ) (ls ms : List Line) → firstLine n (ls ++ ms) ≡ accepted →
+    (firstLine n ls ≡ accepted) × (firstLine n ms ≡ accepted)
 passed-both n ls ms h = go (firstLine n ls) (sym (first-of-both n ls ms) ∙ h)
   where
     go : (r : Refused) → orNext r (firstLine n ms) ≡ accepted → (r ≡ accepted) × (firstLine n ms ≡ accepted)

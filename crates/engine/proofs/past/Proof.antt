@@ -2,26 +2,19 @@ use native.Mathlib.Nat.{lt-of-le-of-lt, div-mul-le-self, mod-eq-of-lt}
 use borrow.Author.Needs.{needs}
 use Rattle.engine.proofs.past.Statement.{statement}
 use Rattle.engine.proofs.past.Tie as tie
-use Rattle.engine.proofs.past.Reads as reads
-use Rattle.engine.proofs.past.Lts as lts
 
--- src/lib.rt:108:12
 add-result : tie.Need-add-result
 add-result c = search needs
 
--- src/lib.rt:108:6
 shr-result : tie.Need-shr-result
 shr-result c = search needs
 
--- src/lib.rt:108:24
 add-result-2 : tie.Need-add-result-2
 add-result-2 c = search needs
 
--- src/lib.rt:108:5
 shl-result : tie.Need-shl-result
 shl-result c = search needs
 
--- src/lib.rt:104:1
 returns : tie.Need-returns
 returns c = mod-eq-of-lt (lt-of-le-of-lt (div-mul-le-self _ _) (c .fits .m .fits))
 

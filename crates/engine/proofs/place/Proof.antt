@@ -1,48 +1,41 @@
 use Prim.Native.Nat.{_<_}
+use mathlib.Core.Path.{refl, ap}
+use native.Mathlib.Omega.{arith}
+use lib.Bits.{bitOr}
 use Rattle.engine.specs.CleanMasks.{limit}
 use Rattle.engine.proofs.StateLaws.{can-below}
 use Rattle.engine.proofs.KeptLaws.{place-current}
-use lib.Bits.{bitOr}
-use native.Mathlib.Omega.{arith}
-use mathlib.Core.Path.{refl, ap}
 use borrow.Author.Needs.{needs}
 use Rattle.engine.proofs.place.Statement.{statement}
 use Rattle.engine.proofs.place.Tie as tie
-use Rattle.engine.proofs.place.Reads as reads
-use Rattle.engine.proofs.place.Lts as lts
-use Rattle.engine.proofs.ready_of.Reads as ready-of-reads
-use Rattle.masks.proofs.one.Reads as one-reads
 
 -- e is an event
 below : (c : tie.Start) → c .args .e < limit
-below c = can-below _ _ _ (c .pre .0) _ _ _ (c .pre .1) (c .pre .2)
+below c = can-below (c .pre .0) _ _ _ (c .pre .1) (c .pre .2)
 
--- src/lib.rt:87:9
 one-requires : tie.Need-one-requires
 one-requires c κs = omega (arith, below c)
 
--- src/lib.rt:90:32
 mul-ready-of : tie.Need-mul-ready-of
 mul-ready-of c = search needs
 
--- src/lib.rt:90:32
 element-copy-out-ready-of : tie.Need-element-copy-out-ready-of
 element-copy-out-ready-of c = omega (arith, below (c .before))
 
--- src/lib.rt:90:9
 ready-of-requires : tie.Need-ready-of-requires
 ready-of-requires c κs = search needs
 
--- src/lib.rt:83:1
 returns : tie.Need-returns
 returns c =
     let s = c .before .before .before in
     let v = s .args in
     let b = c .before .before .one in
     let waits = s .pre .0 .waiting (v .e) (omega (arith, below s)) in
-    let now = bitOr (v .placed) (b .result) in
-    (ap (bitOr (v .placed)) (b .ensures),
-     place-current _ _ (v .placed) (v .can) (v .e) (b .result) now _ _ (s .pre .1) (s .pre .2) waits (b .ensures) refl (c .ready-of .ensures))
+    let now = bitOr (v .placed) (b .result) in (
+      ap (bitOr (v .placed)) (b .ensures),
+      place-current _ _ (v .placed) (v .can) (v .e) (b .result) now _ _ (s .pre .1) (s .pre .2) waits (b .ensures) refl
+          (c .ready-of .ensures),
+    )
 
 pub place-spec : {M : Type 1} → statement M
 place-spec =

@@ -1,20 +1,15 @@
-use lib.ListN.{length-set}
-use mathlib.Core.Path.{refl}
 use Prim.Native.Nat.{ℕ, _+_, _-_, _≤_, _<_}
-use mathlib.Core.Path.{_≡_, sym, subst, _∙_}
+use mathlib.Core.Path.{refl, _≡_, sym, subst}
 use mathlib.Core.List.{List}
 use native.Mathlib.Omega.{arith}
-use lib.ListN.{length, getD, set}
+use lib.ListN.{length-set, length, getD, set}
 use lib.Seq.{getD-set-same, getD-set-other}
-use borrow.Author.Count.{below-none, below-more}
+use borrow.Author.Count.{below-more}
 use Rattle.engine.specs.CleanMasks.{slots}
 use Rattle.engine.specs.State.{Waiting}
 use borrow.Author.Needs.{needs}
 use Rattle.engine.proofs.successors.Statement.{statement}
 use Rattle.engine.proofs.successors.Tie as tie
-use Rattle.engine.proofs.successors.Reads as reads
-use Rattle.engine.proofs.successors.Lts as lts
-use Rattle.engine.proofs.waiting.Reads as waiting-reads
 
 -- what holds of the entries below i, and of what is stored at i, holds of the entries below i + 1
 filled : (P : ℕ → ℕ → Type 0) (l : List ℕ) (i v : ℕ) → i < length l → ((j : ℕ) → j < i → P j (getD l j 0)) → P i v →
@@ -31,44 +26,36 @@ Inv-loop pred mem succ₀ e₀ succ e =
 abbrev μ-loop : tie.MeasureT-loop
 μ-loop pred mem succ₀ e₀ succ e = slots - e
 
--- src/lib.rt:76:5
 loop-holds : tie.Need-loop-holds Inv-loop μ-loop
 loop-holds c = (search needs, refl, λ j l. absurd (omega arith))
 
--- src/lib.rt:77:38
 cast-waiting : tie.Need-cast-waiting Inv-loop μ-loop
 cast-waiting c = search needs
 
--- src/lib.rt:77:19
 waiting-requires : tie.Need-waiting-requires Inv-loop μ-loop
 waiting-requires c κs = search needs
 
--- src/lib.rt:77:9
 mul-succ : tie.Need-mul-succ Inv-loop μ-loop
 mul-succ c = search needs
 
--- src/lib.rt:77:9
 array-write-succ : tie.Need-array-write-succ Inv-loop μ-loop
 array-write-succ c = search needs
 
--- src/lib.rt:76:9
 add-e : tie.Need-add-e Inv-loop μ-loop
 add-e c = search needs
 
--- src/lib.rt:76:5
 loop-less : tie.Need-loop-less Inv-loop μ-loop
 loop-less c = search needs
 
--- src/lib.rt:76:5
 loop-again : tie.Need-loop-again Inv-loop μ-loop
 loop-again c =
     let v = c .before .before .loop in
-    let s = c .before .before .before in
-    (omega arith,
-     simp length-set (v .inv .1),
-     filled (Waiting (s .args .pred .now) (s .args .mem)) (v .succ) (v .e) _ (omega arith) (v .inv .2) (c .waiting .ensures))
+    let s = c .before .before .before in (
+      omega arith,
+      simp length-set (v .inv .1),
+      filled (Waiting (s .args .pred .now) (s .args .mem)) (v .succ) (v .e) _ (omega arith) (v .inv .2) (c .waiting .ensures),
+    )
 
--- src/lib.rt:71:1
 returns : tie.Need-returns Inv-loop μ-loop
 returns c =
     let v = c .before .loop in

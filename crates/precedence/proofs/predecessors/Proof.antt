@@ -1,0 +1,68 @@
+use Prim.Native.Nat.{_-_, _≤_}
+use mathlib.Core.Path.{_≡_}
+use mathlib.Core.List.{_++_}
+use native.Mathlib.Omega.{arith}
+use lib.ListN.{drop}
+use borrow.Author.Needs.{needs}
+use Rattle.lists.specs.Filled.{upTo}
+use Rattle.lists.proofs.FilledLaws.{fill-more}
+use Rattle.engine.specs.CleanMasks.{slots}
+use Rattle.precedence.specs.Precedence.{predecessorMask, predecessorMasks}
+use Rattle.precedence.proofs.LoopLaws.{fill-end}
+use Rattle.precedence.proofs.predecessors.Statement.{statement}
+use Rattle.precedence.proofs.predecessors.Tie as tie
+
+abbrev Inv-loop : tie.InvT-loop
+Inv-loop t rows₀ b₀ rows b = (b ≤ t .count) × (rows ≡ upTo b (predecessorMask t) ++ drop b rows₀)
+
+abbrev μ-loop : tie.MeasureT-loop
+μ-loop t rows₀ b₀ rows b = t .count - b
+
+loop-holds : tie.Need-loop-holds Inv-loop μ-loop
+unfolding upTo
+loop-holds c = search needs
+
+row-requires : tie.Need-row-requires Inv-loop μ-loop
+row-requires c κs = search needs
+
+cast-rows : tie.Need-cast-rows Inv-loop μ-loop
+cast-rows c = search needs
+
+mul-rows : tie.Need-mul-rows Inv-loop μ-loop
+mul-rows c = search needs
+
+array-write-rows : tie.Need-array-write-rows Inv-loop μ-loop
+array-write-rows c = search needs
+
+add-b : tie.Need-add-b Inv-loop μ-loop
+add-b c = search needs
+
+loop-less : tie.Need-loop-less Inv-loop μ-loop
+loop-less c = search needs
+
+loop-again : tie.Need-loop-again Inv-loop μ-loop
+loop-again c =
+    let v = c .before .before .before .loop in
+    (omega arith, fill-more _ _ (v .rows) (v .b) (v .inv .1) (omega arith) (c .row .ensures))
+
+returns : tie.Need-returns Inv-loop μ-loop
+unfolding predecessorMasks
+returns c =
+    let v = c .before .before .loop in
+    fill-end _ (v .b) _ slots _ (v .inv .1) (c .if1 .left) (v .inv .0) (omega arith)
+
+pub predecessors-spec : {M : Type 1} → statement M
+predecessors-spec =
+    tie.close
+    (tie.spec
+    Inv-loop
+    μ-loop
+    loop-holds
+    row-requires
+    cast-rows
+    mul-rows
+    array-write-rows
+    add-b
+    loop-less
+    loop-again
+    returns)

@@ -1,0 +1,59 @@
+// The static part of preserved program order (static ppo) of a table, as the engine's masks.
+use edition::EventNo;
+use engine::SLOTS;
+use masks::one;
+use table::Table;
+ghost use Prim.Native.Nat.{_≤_, _<_};
+ghost use mathlib.Core.Path.{_≡_};
+ghost use Rattle.engine.specs.CleanMasks.{limit};
+ghost use Rattle.precedence.specs.Precedence.{predecessorMask, predecessorMasks, memoryMask};
+
+// The mask of the memory events.
+pub fn memory_mask(t: Table) -> u32
+    requires { ⌜ t .count ≤ limit ⌝ }
+    ensures { λ r. ⌜ r ≡ memoryMask t ⌝ }
+{
+    let mut mask: u32 = 0;
+    let mut e = t.count;
+    while 0 < e {
+        e -= 1;
+        if table::memory(t.events[e as usize]) {
+            mask |= one(e as u32);
+        }
+    }
+    mask
+}
+
+// The mask of the steady predecessors of `b`. A table by value is copied at each call, so what the events tell is tested first.
+fn row(t: Table, b: EventNo) -> u32
+    requires { ⌜ (b .0 < t .count) × (t .count ≤ limit) ⌝ }
+    ensures { λ r. ⌜ r ≡ predecessorMask t (b .0) ⌝ }
+{
+    let y = t.events[b.0 as usize];
+    let mut mask: u32 = 0;
+    let mut a = t.count;
+    while 0 < a {
+        a -= 1;
+        let x = t.events[a as usize];
+        if table::program_order(EventNo(a), x, b, y) & table::memory(x) & table::memory(y) {
+            if rules::static_ppo(t, EventNo(a), b) {
+                mask |= one(a as u32);
+            }
+        }
+    }
+    mask
+}
+
+// For each event the mask of its steady predecessors; none past the events.
+pub fn predecessors(t: Table) -> [u32; SLOTS]
+    requires { ⌜ t .count ≤ limit ⌝ }
+    ensures { λ r. ⌜ r ≡ predecessorMasks t ⌝ }
+{
+    let mut rows = [0u32; SLOTS];
+    let mut b: u8 = 0;
+    while b < t.count {
+        rows[b as usize] = row(t, EventNo(b));
+        b += 1;
+    }
+    rows
+}

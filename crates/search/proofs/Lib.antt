@@ -1,0 +1,4 @@
+pub mod RunLaws
+pub mod WitnessLaws
+pub mod CopyLaws
+pub mod CallLaws

@@ -1,0 +1,67 @@
+use mathlib.Core.List.{List}
+use lib.ListN.{getD, length-set}
+use Prim.Native.Nat.{ℕ, _≤_, _-_}
+use mathlib.Core.Path.{_≡_, refl, ap, _∙_}
+use native.Mathlib.Omega.{arith}
+use mathlib.Core.List.{_++_}
+use lib.ListN.{length, take, drop}
+use Rattle.search.proofs.CopyLaws.{copy-more}
+use borrow.Author.Needs.{needs}
+use Rattle.search.proofs.copy.Statement.{statement}
+use Rattle.search.proofs.copy.Tie as tie
+
+abbrev Inv-loop : tie.InvT-loop
+Inv-loop order len out₀ i₀ out i = (i ≤ len) × (length out ≡ length out₀) × (out ≡ take i order ++ drop i out₀)
+
+abbrev μ-loop : tie.MeasureT-loop
+μ-loop order len out₀ i₀ out i = len - i
+
+loop-holds : tie.Need-loop-holds Inv-loop μ-loop
+loop-holds c = (omega arith, refl, refl)
+
+element-copy-out-out : tie.Need-element-copy-out-out Inv-loop μ-loop
+element-copy-out-out c = search needs
+
+slice-write-out : tie.Need-slice-write-out Inv-loop μ-loop
+slice-write-out c = search needs
+
+add-i : tie.Need-add-i Inv-loop μ-loop
+add-i c = search needs
+
+loop-less : tie.Need-loop-less Inv-loop μ-loop
+loop-less c = search needs
+
+loop-again : tie.Need-loop-again Inv-loop μ-loop
+loop-again c =
+    let v = c .before .before .loop in
+    let a = c .before .before .before .args in
+    (
+    omega arith,
+    simp length-set (v .inv .1),
+    copy-more (a .order .now) (a .out .now) (v .out) (v .i) (v .inv .2) (omega arith) (omega arith)
+    )
+
+same-length : tie.Need-same-length Inv-loop μ-loop
+same-length c = search needs
+
+returns : tie.Need-returns Inv-loop μ-loop
+returns c =
+    let v = c .before .loop in
+    let a = c .before .before .args in
+    let e : v .i ≡ a .len = omega arith in
+    v .inv .2 ∙ ap (λ (n : ℕ). take n (a .order .now) ++ drop n (a .out .now)) e
+
+pub copy-spec : {M : Type 1} → statement M
+copy-spec =
+    tie.close
+    (tie.spec
+    Inv-loop
+    μ-loop
+    loop-holds
+    element-copy-out-out
+    slice-write-out
+    add-i
+    loop-less
+    loop-again
+    same-length
+    returns)

@@ -1,0 +1,58 @@
+use lib.ListN.{length}
+use Rattle.engine.specs.CleanMasks.{slots}
+use Rattle.search.specs.Running.{AtMost}
+use mathlib.Core.Path.{subst}
+use borrow.Author.Needs.{needs}
+use Rattle.search.proofs.deliver.Statement.{statement}
+use Rattle.search.proofs.deliver.Tie as tie
+
+enum-known-outcome : tie.Need-enum-known-outcome
+enum-known-outcome c = search needs
+
+copy-requires : tie.Need-copy-requires
+copy-requires c κs =
+    let p = c .before .before .before .before .before .pre in
+    let q = c .before .before .outcome .given .1 in
+    (p .0, subst (AtMost slots) q (p .1), subst (AtMost (length (c .before .before .before .before .before .args .out .now))) q (p .2))
+
+enum-told : tie.Need-enum-told
+enum-told c = search needs
+
+enum-known-outcome-2 : tie.Need-enum-known-outcome-2
+enum-known-outcome-2 c = search needs
+
+copy-requires-2 : tie.Need-copy-requires-2
+copy-requires-2 c κs =
+    let p = c .before .before .before .before .before .pre in
+    let q = c .before .before .outcome2 .given .1 in
+    (p .0, subst (AtMost slots) q (p .1), subst (AtMost (length (c .before .before .before .before .before .args .out .now))) q (p .2))
+
+same-length : tie.Need-same-length
+same-length c = search needs
+
+returns : tie.Need-returns
+returns c = rw (c .before .before .before .before .before .outcome .given .1) (c .before .before .copy .ensures)
+
+returns-2 : tie.Need-returns-2
+returns-2 c = search needs
+
+same-length-2 : tie.Need-same-length-2
+same-length-2 c = search needs
+
+returns-3 : tie.Need-returns-3
+returns-3 c = rw (c .before .before .before .before .before .outcome2 .given .1) (c .before .before .copy2 .ensures)
+
+pub deliver-spec : {M : Type 1} → statement M
+deliver-spec =
+    tie.close
+    (tie.spec
+    enum-known-outcome
+    copy-requires
+    enum-told
+    enum-known-outcome-2
+    copy-requires-2
+    same-length
+    returns
+    returns-2
+    same-length-2
+    returns-3)

@@ -1,0 +1,25 @@
+use mathlib.Core.Path.{sym}
+use native.Mathlib.Omega.{arith}
+use lib.Seq.{length-take-le}
+use borrow.Author.Needs.{needs}
+use Rattle.search.proofs.is_witness.Statement.{statement}
+use Rattle.search.proofs.is_witness.Tie as tie
+
+slice-aggregate-is-allowed : tie.Need-slice-aggregate-is-allowed
+slice-aggregate-is-allowed c =
+    let p = c .before .before .pre in
+    sym (length-take-le (c .before .before .args .len) (c .before .before .args .order .now) (omega arith))
+
+slice-aggregate-is-allowed-2 : tie.Need-slice-aggregate-is-allowed-2
+slice-aggregate-is-allowed-2 c = search needs
+
+is-allowed-requires : tie.Need-is-allowed-requires
+is-allowed-requires c κs = search needs
+
+returns : tie.Need-returns
+returns c = search needs
+
+pub is-witness-spec : {M : Type 1} → statement M
+is-witness-spec =
+    tie.close
+    (tie.spec slice-aggregate-is-allowed slice-aggregate-is-allowed-2 is-allowed-requires returns)

@@ -1,0 +1,230 @@
+use Prim.Native.Nat.{ℕ, suc, _+_, _-_, _≤_}
+use mathlib.Core.Path.{_≡_, ap, sym, subst, _∙_}
+use mathlib.Core.Bool.{true, false}
+use native.Mathlib.Omega.{arith}
+use native.Mathlib.Numerals.{add-one}
+use native.Mathlib.Nat.{sub-zero}
+use borrow.Author.Tests.{not-true}
+use lib.ListN.{take, set, length-take}
+use lib.Count.{ones, ones-le}
+use Rattle.model.specs.Witness.{isOrder, witness}
+use Rattle.prefixes.specs.Answer.{found, noneLeft, spent}
+use Rattle.engine.specs.State.{Moved, NextIs, Holds}
+use Rattle.search.specs.Running.{searchFrom}
+use Rattle.values.proofs.OrderLaws.{order-listed}
+use Rattle.values.specs.Prepared.{Listed}
+use Rattle.search.proofs.WitnessLaws.{value-differs, final-differs}
+use Rattle.search.proofs.RunLaws.{total-ones, held-clean, held-long, held-short, run-none, run-spent, run-found, run-on, whole-is-order, part-is-none}
+use borrow.Author.Needs.{needs}
+use Rattle.search.proofs.walk.Statement.{statement}
+use Rattle.search.proofs.walk.Tie as tie
+
+abbrev Inv-loop : tie.InvT-loop
+Inv-loop t pred succ mem readers rivals own initial written stated writers starts finals order₀ start first ready budget total len₀ placed₀ can₀ visited₀ order len placed can visited = (visited ≤ budget) × Holds pred mem order len placed can × (searchFrom t (take start order₀) budget 0 ≡ searchFrom t (take len order) (budget - visited) visited)
+
+abbrev μ-loop : tie.MeasureT-loop
+μ-loop t pred succ mem readers rivals own initial written stated writers starts finals order₀ start first ready budget total len₀ placed₀ can₀ visited₀ order len placed can visited = budget - visited
+
+-- the engine's next step, once it is known to place an event
+moved : (c : tie.After-step Inv-loop μ-loop) →
+    let v = c .before .before .before .before .loop in
+    let a = c .before .before .before .before .before .args in
+    let g = c .step .given .0 in
+    Moved (a .pred .now) (a .mem) (v .order) (v .len) (g .0) (g .1 .0) (g .1 .1 .0) (g .1 .1 .1 .0)
+moved c =
+    let v = c .before .before .before .before .loop in
+    let a = c .before .before .before .before .before .args in
+    subst (NextIs (a .pred .now) (a .mem) (v .order) (v .len)) (c .step .given .1) (c .before .before .next .ensures)
+
+-- the budget isn't used up yet
+budget-left : (c : tie.Else1 Inv-loop μ-loop) →
+    let v = c .before .before .before .before .before .before .loop in
+    let a = c .before .before .before .before .before .before .before .args in
+    a .budget - v .visited ≡ suc (a .budget - (v .visited + 1))
+budget-left c = omega arith
+
+-- the prefix visited is no witness: the walk goes on from it
+onward : (c : tie.Else1 Inv-loop μ-loop) →
+    let v = c .before .before .before .before .before .before .loop in
+    let a = c .before .before .before .before .before .before .before .args in
+    let g = c .before .before .step .given .0 in
+    let o = set (v .order) (g .0) (g .1 .0) in
+    witness (a .t) (take (g .0 + 1) o) ≡ false →
+    (v .visited + 1 ≤ a .budget) × Holds (a .pred .now) (a .mem) o (g .0 + 1) (g .1 .1 .0) (g .1 .1 .1 .0)
+    × (searchFrom (a .t) (take (a .start) (a .order .now)) (a .budget) 0 ≡ searchFrom (a .t) (take (g .0 + 1) o) (a .budget - (v .visited + 1)) (v .visited + 1))
+onward c w =
+    let v = c .before .before .before .before .before .before .loop in
+    let s = c .before .before .before .before .before .before .before in
+    let g = c .before .before .step .given .0 in
+    let o = set (v .order) (g .0) (g .1 .0) in
+    let m = moved (c .before .before) in
+    (
+    omega arith,
+    m .holds,
+    v .inv .2 ∙ run-on (s .pre .0 .0) (v .inv .1) m _ _ (s .args .budget - (v .visited + 1)) (budget-left c) w
+    ∙ ap (searchFrom (s .args .t) (take (g .0 + 1) o) (s .args .budget - (v .visited + 1))) (sym (add-one (v .visited)))
+    )
+
+-- the prefix visited has all memory events: it is an order
+whole : (c : tie.Else2 Inv-loop μ-loop) →
+    let v = c .before .before .before .before .before .before .before .loop in
+    let a = c .before .before .before .before .before .before .before .before .args in
+    let g = c .before .before .before .step .given .0 in
+    isOrder (a .t) (take (g .0 + 1) (set (v .order) (g .0) (g .1 .0))) ≡ true
+whole c =
+    let s = c .before .before .before .before .before .before .before .before in
+    let m = moved (c .before .before .before) in
+    whole-is-order _ (s .pre .0 .0 .small) _ (held-clean (s .pre .0 .0) (m .holds))
+    (held-long (s .pre .0 .0) (m .holds) ∙ c .if2 .left ∙ total-ones (s .pre .0 .0))
+
+-- so the scans may go over it
+listed : (c : tie.Else2 Inv-loop μ-loop) →
+    let v = c .before .before .before .before .before .before .before .loop in
+    let g = c .before .before .before .step .given .0 in
+    Listed (set (v .order) (g .0) (g .1 .0)) (g .0 + 1)
+listed c =
+    let s = c .before .before .before .before .before .before .before .before in
+    let m = moved (c .before .before .before) in
+    order-listed _ _ _ (omega (arith, s .pre .0 .0 .small .events)) (m .holds .long) (omega (arith, m .room)) (whole c)
+
+cast-total : tie.Need-cast-total Inv-loop μ-loop
+cast-total c = omega (arith, ones-le 32 (c .args .mem) (omega arith))
+
+loop-holds : tie.Need-loop-holds Inv-loop μ-loop
+loop-holds c = (omega arith, c .pre .0 .1, ap (λ (b : ℕ). searchFrom (c .args .t) (take (c .args .start) (c .args .order .now)) b 0) (sym (sub-zero (c .args .budget))))
+
+next-requires : tie.Need-next-requires Inv-loop μ-loop
+next-requires c κs = search needs
+
+enum-told : tie.Need-enum-told Inv-loop μ-loop
+enum-told c = search needs
+
+returns : tie.Need-returns Inv-loop μ-loop
+returns c =
+    let v = c .before .before .before .before .loop in
+    let a = c .before .before .before .before .before .args in
+    record {
+    answer = sym (v .inv .2 ∙ run-none (c .before .before .before .before .before .pre .0 .0) (v .inv .1) _ _
+    (subst (NextIs (a .pred .now) (a .mem) (v .order) (v .len)) (c .enum-told .given .1) (c .before .before .next .ensures)));
+    long = v .inv .1 .long;
+    short = tt;
+    }
+
+enum-known-step : tie.Need-enum-known-step Inv-loop μ-loop
+enum-known-step c = search needs
+
+cast-t33 : tie.Need-cast-t33 Inv-loop μ-loop
+cast-t33 c =
+    let v = c .before .before .before .before .before .before .loop in
+    omega (arith, v .inv .1 .counted, held-long (c .before .before .before .before .before .before .before .pre .0 .0) (v .inv .1), length-take (v .len) (v .order), v .inv .1 .long)
+
+returns-2 : tie.Need-returns-2 Inv-loop μ-loop
+returns-2 c =
+    let v = c .before .before .before .before .before .before .loop in
+    record {
+    answer = sym (v .inv .2 ∙ run-spent (c .before .before .before .before .before .before .before .pre .0 .0) (v .inv .1) (moved (c .before .before)) _ _ (omega arith)
+    ∙ ap (λ (n : ℕ). spent (take n (v .order)) (v .visited)) (v .inv .1 .counted));
+    long = v .inv .1 .long;
+    short = held-short (c .before .before .before .before .before .before .before .pre .0 .0) (v .inv .1);
+    }
+
+element-write-order : tie.Need-element-write-order Inv-loop μ-loop
+element-write-order c =
+    let v = c .before .before .before .before .before .before .loop in
+    omega (arith, moved (c .before .before) .room, v .inv .1 .long)
+
+add-len : tie.Need-add-len Inv-loop μ-loop
+add-len c = omega (arith, moved (c .before .before) .room)
+
+add-visited : tie.Need-add-visited Inv-loop μ-loop
+add-visited c = search needs
+
+loop-less : tie.Need-loop-less Inv-loop μ-loop
+loop-less c = search needs
+
+loop-again : tie.Need-loop-again Inv-loop μ-loop
+loop-again c =
+    let s = c .before .before .before .before .before .before .before .before in
+    onward (c .before) (part-is-none _ _ (λ e. c .if2 .taken (sym (held-long (s .pre .0 .0) (moved (c .before .before .before) .holds)) ∙ e ∙ sym (total-ones (s .pre .0 .0)))))
+
+values-read-requires : tie.Need-values-read-requires Inv-loop μ-loop
+values-read-requires c κs = listed (c .before)
+
+loop-less-2 : tie.Need-loop-less-2 Inv-loop μ-loop
+loop-less-2 c = search needs
+
+loop-again-2 : tie.Need-loop-again-2 Inv-loop μ-loop
+loop-again-2 c =
+    let s = c .before .before .before .before .before .before .before .before .before .before .before in
+    onward (c .before .before .before .before) (value-differs (s .pre .0 .0 .small) (s .pre .1) _ (whole (c .before .before .before)) (sym (c .before .values-read .ensures) ∙ not-true _ (c .if3 .taken)))
+
+final-values-requires : tie.Need-final-values-requires Inv-loop μ-loop
+final-values-requires c κs = (listed (c .before .before .before .before), c .before .before .before .before .before .before .before .before .before .before .before .before .pre .0 .0 .small .locations)
+
+loop-less-3 : tie.Need-loop-less-3 Inv-loop μ-loop
+loop-less-3 c = search needs
+
+loop-again-3 : tie.Need-loop-again-3 Inv-loop μ-loop
+loop-again-3 c =
+    let s = c .before .before .before .before .before .before .before .before .before .before .before .before .before .before in
+    onward (c .before .before .before .before .before .before .before) (final-differs (s .pre .0 .0 .small) (s .pre .1) _ (whole (c .before .before .before .before .before .before)) (sym (c .before .final-values .ensures) ∙ not-true _ (c .if4 .taken)))
+
+is-witness-requires : tie.Need-is-witness-requires Inv-loop μ-loop
+is-witness-requires c κs =
+    let m = moved (c .before .before .before .before .before .before .before .before .before .before) in
+    (c .before .before .before .before .before .before .before .before .before .before .before .before .before .before .before .pre .0 .0 .small, m .holds .long, omega (arith, m .room), whole (c .before .before .before .before .before .before .before))
+
+cast-t43 : tie.Need-cast-t43 Inv-loop μ-loop
+cast-t43 c =
+    let m = moved (c .before .before .before .before .before .before .before .before .before .before .before .before) in
+    omega (arith, m .holds .counted, m .room)
+
+returns-3 : tie.Need-returns-3 Inv-loop μ-loop
+returns-3 c =
+    let v = c .before .before .before .before .before .before .before .before .before .before .before .before .before .before .before .before .loop in
+    let s = c .before .before .before .before .before .before .before .before .before .before .before .before .before .before .before .before .before in
+    let m = moved (c .before .before .before .before .before .before .before .before .before .before .before .before) in
+    record {
+    answer = sym (v .inv .2 ∙ run-found (s .pre .0 .0) (v .inv .1) m _ _ (s .args .budget - (v .visited + 1)) (budget-left (c .before .before .before .before .before .before .before .before .before .before)) (sym (c .before .is-witness .ensures) ∙ c .if5 .taken)
+    ∙ ap (λ (n : ℕ). found (take n (set (v .order) (c .before .before .before .before .before .before .before .before .before .before .before .before .step .given .0 .0) (c .before .before .before .before .before .before .before .before .before .before .before .before .step .given .0 .1 .0))) (suc (v .visited))) (m .holds .counted)
+    ∙ ap (found (take (ones (c .before .before .before .before .before .before .before .before .before .before .before .before .step .given .0 .1 .1 .0)) (set (v .order) (c .before .before .before .before .before .before .before .before .before .before .before .before .step .given .0 .0) (c .before .before .before .before .before .before .before .before .before .before .before .before .step .given .0 .1 .0)))) (sym (add-one (v .visited))));
+    long = m .holds .long;
+    short = held-short (s .pre .0 .0) (m .holds);
+    }
+
+loop-less-4 : tie.Need-loop-less-4 Inv-loop μ-loop
+loop-less-4 c = search needs
+
+loop-again-4 : tie.Need-loop-again-4 Inv-loop μ-loop
+loop-again-4 c = onward (c .before .before .before .before .before .before .before .before .before .before) (sym (c .before .is-witness .ensures) ∙ c .if5 .left)
+
+pub walk-spec : {M : Type 1} → statement M
+walk-spec =
+    tie.close
+    (tie.spec
+    Inv-loop
+    μ-loop
+    cast-total
+    loop-holds
+    next-requires
+    enum-told
+    returns
+    enum-known-step
+    cast-t33
+    returns-2
+    element-write-order
+    add-len
+    add-visited
+    loop-less
+    loop-again
+    values-read-requires
+    loop-less-2
+    loop-again-2
+    final-values-requires
+    loop-less-3
+    loop-again-3
+    is-witness-requires
+    cast-t43
+    returns-3
+    loop-less-4
+    loop-again-4)

@@ -1,0 +1,60 @@
+-- What the engine was handed of a table, and what is left of a search.
+use Prim.Native.Nat.{ℕ, _≤_}
+use mathlib.Core.Path.{_≡_}
+use mathlib.Core.List.{List}
+use lib.ListN.{length}
+use Rattle.edition.specs.Limits.{maxLocations}
+use Rattle.table.specs.declared.Table.{Table}
+use Rattle.table.specs.Events.{memoryCount}
+use Rattle.prefixes.specs.Listed.{after}
+use Rattle.prefixes.specs.Answer.{Answer}
+use Rattle.prefixes.specs.Statements.{seek}
+use Rattle.model.specs.Witness.{witness}
+use Rattle.model.specs.Prefixes.{cleanPrefixes}
+use Rattle.engine.specs.CleanMasks.{slots, limit}
+use Rattle.engine.specs.State.{Prepared, Holds}
+use Rattle.search.specs.declared.Outcome.{Outcome}
+use Rattle.search.specs.declared.Outcome.the-variants.{Found, NoneLeft, Spent}
+use Rattle.search.specs.Outcome.{outcomeOf}
+use Rattle.values.specs.Prepared.{readersOf, rivalMasks, ownMasks, initialValues, writtenValues, statedValues, writerMasks}
+use Rattle.precedence.specs.Precedence.{predecessorMasks, memoryMask}
+
+-- the counts of a table that was read
+pub record Small (t : Table) : Type 0 where
+  pub events : t .count ≤ limit
+  pub locations : t .locations ≤ maxLocations
+
+-- the masks are those of the table
+pub record Masked (t : Table) (preds succs : List ℕ) (mem : ℕ) : Type 0 where
+  pub small : Small t
+  pub predecessors : preds ≡ predecessorMasks t
+  pub memory : mem ≡ memoryMask t
+  pub prepared : Prepared preds succs mem
+
+-- the arrays by which values are tested are those of the table
+pub record Valued (t : Table) (readers : ℕ) (rivals own initial written stated writers starts finals : List ℕ) : Type 0 where
+  pub reader-mask : readers ≡ readersOf t
+  pub rival-masks : rivals ≡ rivalMasks t
+  pub own-masks : own ≡ ownMasks t
+  pub initial-values : initial ≡ initialValues t
+  pub written-values : written ≡ writtenValues t
+  pub stated-values : stated ≡ statedValues t
+  pub writer-masks : writers ≡ writerMasks t
+  pub location-values : starts ≡ t .initial
+  pub final-values : finals ≡ t .finals
+
+-- the prefix of an outcome has at most n entries
+abbrev pub AtMost : ℕ → Outcome → Type 0
+AtMost n (Found len visited) = len ≤ n
+AtMost n (NoneLeft visited) = Unit {0}
+AtMost n (Spent len visited) = len ≤ n
+
+-- what a search from prefix p with budget b answers, if v were visited already
+abbrev pub searchFrom : Table → List ℕ → ℕ → ℕ → Answer
+searchFrom t p b v = seek (witness t) (after p (cleanPrefixes t)) p b v
+
+-- the outcome of a search from prefix p with budget b, its prefix at the front of order
+pub record Ran (t : Table) (p : List ℕ) (b : ℕ) (o : Outcome) (order : List ℕ) : Type 0 where
+  pub answer : outcomeOf o order ≡ searchFrom t p b 0
+  pub long : length order ≡ slots
+  pub short : AtMost (memoryCount t) o

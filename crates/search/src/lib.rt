@@ -1,0 +1,202 @@
+// A search of a table: the engine's walk with a counted budget, which stops at the first witness.
+use edition::EditionOne;
+use engine::{Loaded, Step, SLOTS};
+use refusals::Refusal;
+use table::Table;
+use verdict::Verdict;
+
+ghost use Prim.Native.Nat.{_≤_};
+ghost use mathlib.Core.List.{_++_};
+ghost use mathlib.Core.Path.{_≡_};
+ghost use mathlib.Core.Bool.{true};
+ghost use lib.ListN.{length, take, drop};
+ghost use Rattle.model.specs.Witness.{isOrder, witness};
+ghost use Rattle.engine.specs.CleanMasks.{slots};
+ghost use Rattle.engine.specs.State.{Holds};
+ghost use Rattle.search.specs.Outcome.{outcomeBuffer};
+ghost use Rattle.search.specs.Running.{Small, Masked, Valued, AtMost, Ran};
+ghost use Rattle.search.specs.Replies.{tableReply, bufferAfter, replyOf};
+
+// The prefix of Found and Spent stands at the front of the order.
+pub enum Outcome {
+    Found { len: usize, visited: u64 },
+    NoneLeft { visited: u64 },
+    Spent { len: usize, visited: u64 },
+}
+
+// A reply to a search call; the prefix of Found and Spent stands at the front of the answer buffer.
+pub enum Reply {
+    Refused(Refusal),
+    Answered(Outcome),
+}
+
+// The largest allowance.
+const ALLOWANCE: u64 = 1_000_000_000;
+
+// The verdict for the order with the returns that it determines is "allowed".
+fn is_allowed(t: Table, gmo: &[u8], returned: &mut [u8]) -> bool
+    requires { ⌜ Small t × (length (now returned) ≡ slots) × (isOrder t (now gmo) ≡ true) ⌝ }
+    ensures { λ r. ⌜ r ≡ witness t (now (gmo .entry)) ⌝ }
+{
+    verdict::determine(t, gmo, returned);
+    let n = t.count as usize;
+    match verdict::judge(t, &returned[..n], gmo) {
+        Verdict::Refused(_) => false,
+        Verdict::Broken(_) => false,
+        Verdict::Allowed => true,
+    }
+}
+
+// A whole order is a witness.
+fn is_witness(t: Table, order: &[u8; SLOTS], len: usize) -> bool
+    requires { ⌜ Small t × (length (now order) ≡ slots) × (len ≤ slots) × (isOrder t (take len (now order)) ≡ true) ⌝ }
+    ensures { λ r. ⌜ r ≡ witness t (take len (now (order .entry))) ⌝ }
+{
+    let mut returned = [0u8; SLOTS];
+    let entries: &[u8] = order;
+    is_allowed(t, &entries[..len], &mut returned)
+}
+
+// Visits the clean prefixes greater than the order's, ascending. The budget is tested once the next prefix is known and
+// before it is stored: "spent" keeps the last prefix visited, and there must be a further one. Of a whole order the values
+// are tested first: they are cheap and usually fail. The facts of the table are lent one by one, since a struct by value
+// would be copied at each call.
+fn walk(
+    t: Table,
+    pred: &[u32; SLOTS],
+    succ: &[u32; SLOTS],
+    mem: u32,
+    readers: u32,
+    rivals: &[u32; SLOTS],
+    own: &[u32; SLOTS],
+    initial: &[u16; SLOTS],
+    written: &[u16; SLOTS],
+    stated: &[u16; SLOTS],
+    writers: &[u32; EditionOne::LOCATIONS],
+    starts: &[u16; EditionOne::LOCATIONS],
+    finals: &[u16; EditionOne::LOCATIONS],
+    order: &mut [u8; SLOTS],
+    start: usize,
+    first: u32,
+    ready: u32,
+    budget: u64,
+) -> Outcome
+    requires { ⌜ Masked t (now pred) (now succ) mem × Holds (now pred) mem (now order) start first ready ⌝ }
+    requires { ⌜ Valued t readers (now rivals) (now own) (now initial) (now written) (now stated) (now writers) (now starts) (now finals) ⌝ }
+    ensures { λ r. ⌜ Ran t (take start (now (order .entry))) budget r (now (order .exit)) ⌝ }
+{
+    let total = u32::count_ones(mem) as usize;
+    let mut len = start;
+    let mut placed = first;
+    let mut can = ready;
+    let mut visited: u64 = 0;
+    loop {
+        let step = engine::next(pred, succ, mem, &*order, len, placed, can);
+        match step {
+            Step::End => return Outcome::NoneLeft { visited },
+            Step::Place { keep, event, placed: p, can: c } => {
+                if visited == budget {
+                    return Outcome::Spent { len: u32::count_ones(placed) as usize, visited };
+                }
+                order[keep] = event;
+                len = keep + 1;
+                placed = p;
+                can = c;
+                visited += 1;
+            }
+        }
+        if len != total {
+            continue;
+        }
+        if !values::values_read(&*order, len, readers, rivals, own, initial, written, stated) {
+            continue;
+        }
+        if !values::final_values(&*order, len, t.locations, t.stated, writers, starts, written, finals) {
+            continue;
+        }
+        if is_witness(t, &*order, len) {
+            return Outcome::Found { len: u32::count_ones(placed) as usize, visited };
+        }
+    }
+}
+
+// The walk, with the facts of the table that it tests values by.
+fn run(
+    t: Table,
+    pred: &[u32; SLOTS],
+    succ: &[u32; SLOTS],
+    mem: u32,
+    order: &mut [u8; SLOTS],
+    start: usize,
+    first: u32,
+    ready: u32,
+    budget: u64,
+) -> Outcome
+    requires { ⌜ Masked t (now pred) (now succ) mem × Holds (now pred) mem (now order) start first ready ⌝ }
+    ensures { λ r. ⌜ Ran t (take start (now (order .entry))) budget r (now (order .exit)) ⌝ }
+{
+    let readers = values::prepare::readers(t);
+    let rivals = values::prepare::rival_masks(t);
+    let own = values::prepare::own_masks(t);
+    let initial = values::prepare::initial_values(t);
+    let written = values::prepare::written_values(t);
+    let stated = values::prepare::stated_values(t);
+    let writers = values::prepare::writer_masks(t);
+    let starts = t.initial;
+    let finals = t.finals;
+    walk(
+        t, pred, succ, mem, readers, &rivals, &own, &initial, &written, &stated, &writers, &starts, &finals, order, start, first,
+        ready, budget,
+    )
+}
+
+// Copies the first len entries of the order to the front of the buffer.
+fn copy(order: &[u8; SLOTS], len: usize, out: &mut [u8])
+    requires { ⌜ (length (now order) ≡ slots) × (len ≤ slots) × (len ≤ length (now out)) ⌝ }
+    ensures { λ _. ⌜ now (out .exit) ≡ take len (now (order .entry)) ++ drop len (now (out .entry)) ⌝ }
+{
+    let mut i: usize = 0;
+    while i < len {
+        out[i] = order[i];
+        i += 1;
+    }
+}
+
+// Hands out the prefix of an outcome; "none left" writes nothing.
+fn deliver(outcome: Outcome, order: &[u8; SLOTS], out: &mut [u8])
+    requires { ⌜ (length (now order) ≡ slots) × AtMost slots outcome × AtMost (length (now out)) outcome ⌝ }
+    ensures { λ _. ⌜ now (out .exit) ≡ outcomeBuffer outcome (now (order .entry)) (now (out .entry)) ⌝ }
+{
+    match outcome {
+        Outcome::Found { len, visited: _ } => copy(order, len, out),
+        Outcome::NoneLeft { visited: _ } => {}
+        Outcome::Spent { len, visited: _ } => copy(order, len, out),
+    }
+}
+
+// A search call on a table: refusals 15, 16 and 17, the reply and the buffer.
+pub fn search(t: Table, start: &[u8], out: &mut [u8], allowance: u64) -> Reply
+    requires { ⌜ Small t ⌝ }
+    ensures { λ r. ⌜ replyOf r (now (out .exit)) ≡ tableReply t (now (start .entry)) (now (out .entry)) allowance ⌝ }
+    ensures { λ r. ⌜ now (out .exit) ≡ bufferAfter (tableReply t (now (start .entry)) (now (out .entry)) allowance) (now (out .entry)) ⌝ }
+{
+    let pred = precedence::predecessors(t);
+    let mem = precedence::memory_mask(t);
+    let succ = engine::successors(&pred, mem);
+    let mut order = [0u8; SLOTS];
+    let loaded = engine::load(&pred, &succ, mem, start, &mut order);
+    match loaded {
+        Loaded::Unclean => Reply::Refused(Refusal::Line(15)),
+        Loaded::Ready { len, placed, can } => {
+            if out.len() < u32::count_ones(mem) as usize {
+                return Reply::Refused(Refusal::Line(16));
+            }
+            if ALLOWANCE < allowance {
+                return Reply::Refused(Refusal::Line(17));
+            }
+            let outcome = run(t, &pred, &succ, mem, &mut order, len, placed, can, allowance);
+            deliver(outcome, &order, out);
+            Reply::Answered(outcome)
+        }
+    }
+}

@@ -1,0 +1,66 @@
+-- Laws of the last entry of a list that passes a test, and for a loop that tests the entries from the end of an array.
+use Prim.Native.Nat.{ℕ, zero, suc, _-_, _≤_, _<_}
+use mathlib.Core.Path.{_≡_, refl, sym, ap, _∙_}
+use mathlib.Core.Bool.{Bool, true, false, cond, and-eq-true-iff}
+use mathlib.Core.List.{List, [], _∷_, _++_}
+use native.Mathlib.Omega.{arith}
+use lib.ListN.{length, getD, take}
+use lib.Seq.{take-suc}
+use Rattle.lists.specs.Lists.{all, lastOr}
+
+-- of a list with one entry more that entry is the last, if it passes
+last-append : (p : ℕ → Bool) (d x : ℕ) (l : List ℕ) → lastOr p d (l ++ (x ∷ [])) ≡ cond (p x) x (lastOr p d l)
+last-append p d x [] = refl
+last-append p d x (y ∷ l) = last-append p (cond (p y) y d) x l
+
+-- a test that every entry and d passes is passed by the last entry of any kind
+pub last-all : (q p : ℕ → Bool) (d : ℕ) (l : List ℕ) → q d ≡ true → all q l ≡ true → q (lastOr p d l) ≡ true
+last-all q p d [] h a = h
+last-all q p d (x ∷ l) h a = last-all q p (cond (p x) x d) l first (t .1)
+  where
+    t : (q x ≡ true) × (all q l ≡ true)
+    t = and-eq-true-iff (q x) (all q l) .0 a
+
+    first : q (cond (p x) x d) ≡ true
+    first = elim (p x) as (λ b. q (cond b x d) ≡ true) [ true ↦ t .0 | false ↦ h ]
+
+-- tests that agree on the entries have the same last one
+pub last-same : (q p g : ℕ → Bool) (d : ℕ) (l : List ℕ) → all q l ≡ true → ((x : ℕ) → q x ≡ true → p x ≡ g x) → lastOr p d l ≡ lastOr g d l
+last-same q p g d [] a e = refl
+last-same q p g d (x ∷ l) a e =
+    let t = and-eq-true-iff (q x) (all q l) .0 a in
+    rw (e x (t .0)) (last-same q p g (cond (g x) x d) l (t .1) e)
+
+module _ (p : ℕ → Bool) (d : ℕ) (xs : List ℕ) (n : ℕ) where
+  -- of the first n entries those from i on don't pass
+  abbrev pub Behind : ℕ → Type 0
+  Behind i = (i ≤ n) × (lastOr p d (take n xs) ≡ lastOr p d (take i xs))
+
+  -- the last of the entries before i is the one before i, if it passes
+  back-one : (i : ℕ) → 0 < i → i ≤ length xs →
+      lastOr p d (take i xs) ≡ cond (p (getD xs (i - 1) 0)) (getD xs (i - 1) 0) (lastOr p d (take (i - 1) xs))
+  back-one i h k =
+      let e : i ≡ suc (i - 1) = omega arith in
+      ap (λ (j : ℕ). lastOr p d (take j xs)) e ∙ ap (lastOr p d) (take-suc xs (i - 1) 0 (omega arith))
+      ∙ last-append p d (getD xs (i - 1) 0) (take (i - 1) xs)
+
+  -- nothing is tested yet
+  pub behind-start : Behind n
+  behind-start = (omega arith, refl)
+
+  -- the entry before i doesn't pass: go on
+  pub behind-more : (i : ℕ) → n ≤ length xs → Behind i → 0 < i → p (getD xs (i - 1) 0) ≡ false → Behind (i - 1)
+  behind-more i l s h f = (
+    omega arith,
+    s .1 ∙ back-one i h (omega arith)
+        ∙ ap (λ (b : Bool). cond b (getD xs (i - 1) 0) (lastOr p d (take (i - 1) xs))) f,
+  )
+
+  -- it passes: it is the last
+  pub behind-hit : (i : ℕ) → n ≤ length xs → Behind i → 0 < i → p (getD xs (i - 1) 0) ≡ true → getD xs (i - 1) 0 ≡ lastOr p d (take n xs)
+  behind-hit i l s h f =
+      sym (s .1 ∙ back-one i h (omega arith) ∙ ap (λ (b : Bool). cond b (getD xs (i - 1) 0) (lastOr p d (take (i - 1) xs))) f)
+
+  -- all were tested: none passes
+  pub behind-end : (i : ℕ) → Behind i → i ≤ 0 → d ≡ lastOr p d (take n xs)
+  behind-end i s h = let e : i ≡ 0 = omega arith in sym (s .1 ∙ ap (λ (j : ℕ). lastOr p d (take j xs)) e)

@@ -1,0 +1,8 @@
+pub mod OrderLaws
+pub mod LastLaws
+pub mod ReturnLaws
+pub mod LeftLaws
+pub mod GatherLaws
+pub mod FillLaws
+pub mod MemoryLaws
+pub mod ValueLaws

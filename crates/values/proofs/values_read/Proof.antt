@@ -1,0 +1,118 @@
+use Rattle.values.proofs.LeftLaws.{Left, left-start, left-lowest, left-hit, left-more, left-less, left-end}
+use Rattle.values.specs.Prepared.{valuesReadBy, breaksReadBy}
+use Rattle.table.specs.Events.{capacity}
+use lib.ListN.{take}
+use mathlib.Core.Bool.{not}
+use mathlib.Core.Path.{_≡_, ap, sym, _∙_}
+use native.Mathlib.Omega.{arith}
+use Prim.Native.Nat.{_<_}
+use borrow.Author.Needs.{needs}
+use Rattle.values.proofs.values_read.Statement.{statement}
+use Rattle.values.proofs.values_read.Tie as tie
+
+abbrev Inv-loop : tie.InvT-loop
+Inv-loop order len readers rivals own initial written stated left₀ left =
+    Left (breaksReadBy rivals own initial written stated (take len order)) capacity readers left
+
+abbrev μ-loop : tie.MeasureT-loop
+μ-loop order len readers rivals own initial written stated left₀ left = left
+
+-- the lowest reader left is an event
+lowest : (c : tie.After-lowest-set Inv-loop μ-loop) → c .lowest-set .result < capacity
+lowest c = left-lowest _ _ _ _ _ (c .before .before .loop .inv) (omega arith) (c .lowest-set .ensures) .0
+
+loop-holds : tie.Need-loop-holds Inv-loop μ-loop
+loop-holds c = search needs
+
+lowest-set-requires : tie.Need-lowest-set-requires Inv-loop μ-loop
+lowest-set-requires c κs = search needs
+
+cast-k : tie.Need-cast-k Inv-loop μ-loop
+cast-k c = search needs
+
+cast-return-of : tie.Need-cast-return-of Inv-loop μ-loop
+cast-return-of c = omega (arith, lowest c)
+
+mul-return-of : tie.Need-mul-return-of Inv-loop μ-loop
+mul-return-of c = search needs
+
+element-copy-out-return-of : tie.Need-element-copy-out-return-of Inv-loop μ-loop
+element-copy-out-return-of c = lowest c
+
+mul-return-of-2 : tie.Need-mul-return-of-2 Inv-loop μ-loop
+mul-return-of-2 c = search needs
+
+element-copy-out-return-of-2 : tie.Need-element-copy-out-return-of-2 Inv-loop μ-loop
+element-copy-out-return-of-2 c = lowest (c .before)
+
+return-of-requires : tie.Need-return-of-requires Inv-loop μ-loop
+return-of-requires c κs = search needs
+
+mul-leaves : tie.Need-mul-leaves Inv-loop μ-loop
+mul-leaves c = search needs
+
+element-copy-out-leaves : tie.Need-element-copy-out-leaves Inv-loop μ-loop
+element-copy-out-leaves c = lowest (c .before .before .before)
+
+mul-leaves-2 : tie.Need-mul-leaves-2 Inv-loop μ-loop
+mul-leaves-2 c = search needs
+
+element-copy-out-leaves-2 : tie.Need-element-copy-out-leaves-2 Inv-loop μ-loop
+element-copy-out-leaves-2 c = lowest (c .before .before .before .before)
+
+leaves-requires : tie.Need-leaves-requires Inv-loop μ-loop
+leaves-requires c κs = search needs
+
+returns : tie.Need-returns Inv-loop μ-loop
+unfolding valuesReadBy breaksReadBy
+returns c =
+    let k = c .before .before .before .before .before .before .before in
+    sym
+    (ap not
+    (left-hit _ _ _ _ _ (k .before .before .loop .inv) (omega arith) (k .lowest-set .ensures)
+    (rw (c .before .leaves .ensures, c .before .before .before .before .return-of .ensures) at (c .if1 .taken))))
+
+one-requires : tie.Need-one-requires Inv-loop μ-loop
+one-requires c κs = lowest (c .before .before .before .before .before .before .before)
+
+loop-less : tie.Need-loop-less Inv-loop μ-loop
+loop-less c =
+    let k = c .before .before .before .before .before .before .before .before in
+    left-less _ _ _ _ _ (k .before .before .loop .inv) (omega arith) (k .lowest-set .ensures) _ (c .one .ensures)
+
+loop-again : tie.Need-loop-again Inv-loop μ-loop
+unfolding breaksReadBy
+loop-again c =
+    let k = c .before .before .before .before .before .before .before .before in
+    left-more _ _ _ _ _ (k .before .before .loop .inv) (omega arith) (k .lowest-set .ensures) _ (c .one .ensures)
+    (rw (c .before .before .leaves .ensures, c .before .before .before .before .before .return-of .ensures) at (c .before .if1 .left))
+
+returns-2 : tie.Need-returns-2 Inv-loop μ-loop
+unfolding valuesReadBy
+returns-2 c = sym (ap not (left-end _ _ _ _ (c .before .loop .inv) (c .loop-test .left)))
+
+pub values-read-spec : {M : Type 1} → statement M
+values-read-spec =
+    tie.close
+    (tie.spec
+    Inv-loop
+    μ-loop
+    loop-holds
+    lowest-set-requires
+    cast-k
+    cast-return-of
+    mul-return-of
+    element-copy-out-return-of
+    mul-return-of-2
+    element-copy-out-return-of-2
+    return-of-requires
+    mul-leaves
+    element-copy-out-leaves
+    mul-leaves-2
+    element-copy-out-leaves-2
+    leaves-requires
+    returns
+    one-requires
+    loop-less
+    loop-again
+    returns-2)

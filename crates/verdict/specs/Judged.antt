@@ -1,0 +1,26 @@
+-- The code's verdict in the paper's words: a refusal, an axiom with its place, or allowed.
+use Rattle.refusals.specs.Lines as lines
+use Rattle.refusals.specs.Refusals.{refusalOf}
+use Rattle.model.specs.Verdict as model
+use Rattle.verdict.specs.declared.Axiom.{Axiom}
+use Rattle.verdict.specs.declared.Axiom.the-variants.{PreservedOrder, LoadValue, Atomicity, ValueRead, FinalValue}
+use Rattle.verdict.specs.declared.Verdict.{Verdict}
+use Rattle.verdict.specs.declared.Verdict.the-variants.{Refused, Broken, Allowed}
+
+-- a candidate is declined, or judged by the verdict of the definitions
+pub data Judged : Type 0 where
+  declined : lines.Refused → Judged
+  judged : model.Verdict → Judged
+
+-- the axiom that is broken, with its place
+abbrev pub axiomOf : Axiom → model.Verdict
+axiomOf (PreservedOrder a b rule) = model.brokenPpo (a .0) (b .0) rule
+axiomOf (LoadValue reader) = model.brokenLoadValue (reader .0)
+axiomOf (Atomicity lr writer) = model.brokenAtomicity (lr .0) (writer .0)
+axiomOf (ValueRead reader) = model.brokenValueRead (reader .0)
+axiomOf (FinalValue location) = model.brokenFinalValue (location .0)
+
+abbrev pub judgedOf : Verdict → Judged
+judgedOf (Refused r) = declined (refusalOf r)
+judgedOf (Broken a) = judged (axiomOf a)
+judgedOf Allowed = judged model.allowed

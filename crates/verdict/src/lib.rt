@@ -1,0 +1,91 @@
+// The verdict for a candidate: a returned list, rf, and a global memory order, gmo.
+mod atomicity;
+pub mod order;
+mod pairs;
+pub mod returns;
+mod values;
+
+use edition::EventNo;
+use edition::LocationNo;
+use refusals::Refusal;
+use table::Table;
+ghost use Prim.Native.Nat.{_≤_, _<_};
+ghost use mathlib.Core.Path.{_≡_};
+ghost use mathlib.Core.List.{_++_};
+ghost use lib.ListN.{length, drop};
+ghost use Rattle.edition.specs.Limits.{maxLocations};
+ghost use Rattle.table.specs.Events.{capacity};
+ghost use Rattle.model.specs.Returns.{returnEntry, returns};
+ghost use Rattle.model.specs.Verdict.{verdict};
+ghost use Rattle.verdict.specs.Judged.{judged, judgedOf};
+
+// What is broken, with its place; the rule of a preserved-order pair is the lowest.
+pub enum Axiom {
+    PreservedOrder(EventNo, EventNo, u8),
+    LoadValue(EventNo),
+    Atomicity(EventNo, EventNo),
+    ValueRead(EventNo),
+    FinalValue(LocationNo),
+}
+
+pub enum Verdict {
+    Refused(Refusal),
+    Broken(Axiom),
+    Allowed,
+}
+
+// The first that is broken, in the stated order, for a candidate that nothing refuses.
+pub fn judge(t: Table, rf: &[u8], gmo: &[u8]) -> Verdict
+    requires { ⌜ (t .count ≤ capacity) × (t .locations ≤ maxLocations) × (length (now rf) ≡ t .count) ⌝ }
+    ensures { λ r. ⌜ judgedOf r ≡ judged (verdict t (now (rf .entry)) (now (gmo .entry))) ⌝ }
+{
+    let pair = pairs::lowest_pair(t, rf, gmo);
+    if pair.a < t.count {
+        let a = EventNo(pair.a);
+        let b = EventNo(pair.b);
+        let rule = rules::lowest_rule(rules::rule_set(t, rf, a, b));
+        return Verdict::Broken(Axiom::PreservedOrder(a, b, rule));
+    }
+    let r = values::lowest_load_value(t, rf, gmo);
+    if r < t.count {
+        return Verdict::Broken(Axiom::LoadValue(EventNo(r)));
+    }
+    let l = atomicity::lowest_lr(t, rf, gmo);
+    if l < t.count {
+        let w = atomicity::atomicity_writer(t, rf, gmo, EventNo(l));
+        return Verdict::Broken(Axiom::Atomicity(EventNo(l), EventNo(w)));
+    }
+    let r = values::lowest_value_read(t, rf);
+    if r < t.count {
+        return Verdict::Broken(Axiom::ValueRead(EventNo(r)));
+    }
+    let x = values::lowest_final_value(t, gmo);
+    if x < t.locations {
+        return Verdict::Broken(Axiom::FinalValue(LocationNo(x)));
+    }
+    Verdict::Allowed
+}
+
+// An entry of the returned list that the order determines.
+fn return_entry(t: Table, gmo: &[u8], e: EventNo) -> u8
+    requires { ⌜ e .0 < capacity ⌝ }
+    ensures { λ w. ⌜ w ≡ returnEntry t (now (gmo .entry)) (e .0) ⌝ }
+{
+    if table::reads(t.events[e.0 as usize]) {
+        returns::return_of(t, gmo, e)
+    } else {
+        returns::NOTHING
+    }
+}
+
+// Writes that list to the front of `out`; what stands past it stays.
+pub fn determine(t: Table, gmo: &[u8], out: &mut [u8])
+    requires { ⌜ (t .count ≤ capacity) × (t .count ≤ length (now out)) ⌝ }
+    ensures { λ r. ⌜ now (out .exit) ≡ returns t (now (gmo .entry)) ++ drop (t .count) (now (out .entry)) ⌝ }
+{
+    let mut e: u8 = 0;
+    while e < t.count {
+        out[e as usize] = return_entry(t, gmo, EventNo(e));
+        e += 1;
+    }
+}
