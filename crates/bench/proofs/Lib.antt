@@ -1,2 +1,3 @@
+pub mod EntryLaws
 pub mod ReplyLaws
 pub mod Demand3Laws

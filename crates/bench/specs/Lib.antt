@@ -1,2 +1,3 @@
+pub mod Candidate
 pub mod Search
 pub mod Demand3

@@ -29,7 +29,7 @@ ghost use Rattle.table.specs.Events.{capacity, memoryKind};
 ghost use Rattle.model.specs.Rules.{from, rules, ppo, staticPpo};
 ghost use Rattle.rules.specs.RuleMask.{setMask, lowestIn, inPlaces};
 
-pub const RULES: usize = 13;
+const RULES: usize = 13;
 
 // What event e returned from.
 pub fn returned_from(rf: &[u8], e: EventNo) -> u8

@@ -12,7 +12,7 @@ ghost use Rattle.table.specs.Events.{capacity};
 ghost use Rattle.model.specs.Rules.{rule12, rule13};
 ghost use Rattle.rules.specs.Between.{forwards, addresses};
 
-// Some writer strictly between a and b, from which w returned, depends on a.
+// The write w is a writer strictly between a and b, and its address or data depends on a.
 fn some_forwards(t: Table, w: u8, a: EventNo, b: EventNo) -> bool
     requires { ⌜ (a .0 < capacity) × (b .0 < capacity) × (t .count ≤ capacity) ⌝ }
     ensures { λ r. ⌜ r ≡ some (t .count) (forwards t w (a .0) (b .0)) ⌝ }

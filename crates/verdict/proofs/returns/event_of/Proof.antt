@@ -23,6 +23,7 @@ returns : tie.Need-returns
 unfolding event
 returns c = search needs
 
+-- past the table's slots, the sixth field, the definition has blank events too
 returns-2 : tie.Need-returns-2
 unfolding event
 returns-2 c =

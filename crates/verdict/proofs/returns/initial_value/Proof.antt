@@ -23,6 +23,7 @@ returns : tie.Need-returns
 unfolding initialValue
 returns c = search needs
 
+-- past the initial values, the table's fifth field, the definition has zeros too
 returns-2 : tie.Need-returns-2
 unfolding initialValue
 returns-2 c =

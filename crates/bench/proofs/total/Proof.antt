@@ -1,0 +1,19 @@
+use mathlib.Core.Path.{ap, _∙_}
+use native.Mathlib.Omega.{arith}
+use lib.Count.{ones, ones-le}
+use Rattle.precedence.proofs.PrecedenceLaws.{memory-mask-ones}
+use borrow.Author.Needs.{needs}
+use Rattle.bench.proofs.total.Statement.{statement}
+use Rattle.bench.proofs.total.Tie as tie
+
+memory-mask-requires : tie.Need-memory-mask-requires
+memory-mask-requires c κs = search needs
+
+cast-result : tie.Need-cast-result
+cast-result c = omega (arith, ones-le 32 (c .memory-mask .result) (omega arith))
+
+returns : tie.Need-returns
+returns c = ap ones (c .memory-mask .ensures) ∙ memory-mask-ones _
+
+pub total-spec : {M : Type 1} → statement M
+total-spec = tie.close (tie.spec memory-mask-requires cast-result returns)
