@@ -188,8 +188,11 @@ module _ (t : Table) (gmo out : List ℕ) where
 
     pub determine-none : t .count ≤ length out → (after : List ℕ) → after ≡ returns t gmo ++ drop (t .count) out → DeterminedAs accepted after
     unfolding orderLines returnsTooShort returns
-    determine-none d after e = (none, e ∙ ap (λ (n : ℕ). returns t gmo ++ drop n out) (sym (length-upTo (t .count) (returnEntry t gmo)))
-        ∙ ap (λ (r : Refused). writtenUnless r (returns t gmo) out) none)
+    determine-none d after e = (
+      none,
+      e ∙ ap (λ (n : ℕ). returns t gmo ++ drop n out) (sym (length-upTo (t .count) (returnEntry t gmo)))
+          ∙ ap (λ (r : Refused). writtenUnless r (returns t gmo) out) none,
+    )
       where
         none : accepted ≡ firstLine (t .count) (orderLines t gmo out)
         none = whole-next _ _ _ _ _ a (whole-next _ _ _ _ _ b (whole-next _ _ _ _ _ (le-ltb _ _ d) (none-here _)))

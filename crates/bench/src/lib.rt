@@ -4,7 +4,6 @@ use refusals::Refusal;
 use search::Reply;
 use table::Table;
 use verdict::Verdict;
-
 ghost use mathlib.Core.Path.{_≡_};
 ghost use Rattle.refusals.specs.Lines.{firstLine};
 ghost use Rattle.refusals.specs.Refusals.{refusalOf};

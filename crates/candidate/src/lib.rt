@@ -1,7 +1,6 @@
 // Lines 12 to 14: tests of a candidate's order and returned list against the table.
 use edition::EventNo;
 use table::Table;
-
 ghost use Prim.Native.Nat.{_≤_, _<_};
 ghost use mathlib.Core.Path.{_≡_};
 ghost use mathlib.Core.Bool.{cond, _&&_, not};
@@ -16,6 +15,7 @@ ghost use Rattle.candidate.specs.CandidateLines.{writerFor, returnedWron
 
 // A returned list's entry for an event that doesn't read, and for the initial write.
 const NOTHING: u8 = 254;
+
 const INITIALLY: u8 = 255;
 
 // 1 if the two are the same.

@@ -1,6 +1,6 @@
 // Reading standard input and printing, for the programs.
-use libc::{STDIN_FILENO, STDOUT_FILENO};
-
+use libc::STDIN_FILENO;
+use libc::STDOUT_FILENO;
 ghost use Prim.Native.Nat.{_≤_};
 
 pub fn print(text: &[u8]) {

@@ -92,8 +92,11 @@ keep-shorter f (y ∷ l) x h k = go (eqb x y) (f y) refl refl h (λ m. keep-shor
 pub pigeonhole : (p l : List ℕ) → distinct p ≡ true → all (λ x. has x l) p ≡ true → length p ≤ length l
 pigeonhole [] l d h = omega arith
 pigeonhole (x ∷ p) l d h =
-    omega (arith, pigeonhole p (keep other l) (t .1) (has-all (λ y. has y (keep other l)) p each),
-    keep-shorter other l x (a .0) (ap not (eq-eqb x x refl)))
+    omega (
+      arith,
+      pigeonhole p (keep other l) (t .1) (has-all (λ y. has y (keep other l)) p each),
+      keep-shorter other l x (a .0) (ap not (eq-eqb x x refl)),
+    )
   where
     other : ℕ → Bool
     other y = not (eqb y x)

@@ -117,7 +117,7 @@ module _ (t : Table) where
       each : p ≢ [] → clean t p ≡ true → Clean p → p ∈ cleanPrefixes t
       each n h c =
           let m : all (λ e. has e (memoryEvents t)) p ≡ true =
-              has-all (λ e. has e (memoryEvents t)) p (λ e i. event-has e (all-has (isMemoryEvent t) p e (c .events) i)) in
+          has-all (λ e. has e (memoryEvents t)) p (λ e i. event-has e (all-has (isMemoryEvent t) p e (c .events) i)) in
           listed-each (clean t) (memoryEvents t) (memoryCount t) p clean-closed n h m (pigeonhole p (memoryEvents t) (c .different) m)
 
   -- in ascending order, and so each once
@@ -145,8 +145,8 @@ module _ (t : Table) where
     different = distinct-count p (λ e m. omega (arith, order-once p h e (all-has (isMemoryEvent t) p e events m)));
     in-order = λ a e l m s.
         let n = none-at (t .count) (breaksPpo t rf p a) e
-            (none-at (t .count) (λ a. some (t .count) (breaksPpo t rf p a)) a (not-true _ k) l)
-            (ltb-true e (t .count) (and-l _ _ (all-has (isMemoryEvent t) p e events m))) in
+        (none-at (t .count) (λ a. some (t .count) (breaksPpo t rf p a)) a (not-true _ k) l)
+        (ltb-true e (t .count) (and-l _ _ (all-has (isMemoryEvent t) p e events m))) in
         not-false (before p a e) (rw (static-ppo rf a e s) at n);
   })
     where

@@ -1,7 +1,8 @@
 // Reads a stream of frames (a length of two bytes, then that many bytes) and prints what reading each gives.
 use console::Input;
 use refusals::Refusal;
-use table::{Event, Table};
+use table::Event;
+use table::Table;
 
 const LOCATIONS: usize = 8;
 

@@ -11,6 +11,11 @@ use lib.Seq.{take-suc, drop-cons, set-at, length-take-le}
 pub copy-more : (order o l : List ℕ) (i : ℕ) → l ≡ take i order ++ drop i o → i < length o → i < length order →
     set l i (getD order i 0) ≡ take (i + 1) order ++ drop (i + 1) o
 copy-more order o l i e h k =
-    rw (e, add-one i, drop-cons o i 0 h, take-suc order i 0 k,
-    set-at (take i order) (getD o i 0) (drop (suc i) o) (getD order i 0) i (length-take-le i order (omega arith)))
+    rw (
+      e,
+      add-one i,
+      drop-cons o i 0 h,
+      take-suc order i 0 k,
+      set-at (take i order) (getD o i 0) (drop (suc i) o) (getD order i 0) i (length-take-le i order (omega arith)),
+    )
     (simp append-assoc)

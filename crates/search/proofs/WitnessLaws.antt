@@ -25,7 +25,7 @@ use Rattle.verdict.specs.declared.Verdict.the-variants.{Refused, Broken, Allowe
 use Rattle.search.specs.Running.{Small, Valued}
 
 module _ {t : Table} (small : Small t) {readers : ℕ} {rivals own initial written stated writers starts finals : List ℕ}
-  (facts : Valued t readers rivals own initial written stated writers starts finals) where
+    (facts : Valued t readers rivals own initial written stated writers starts finals) where
   few : t .count ≤ capacity
   few = omega (arith, small .events)
 

@@ -1,10 +1,11 @@
 // A search of a table: the engine's walk with a counted budget, which stops at the first witness.
 use edition::EditionOne;
-use engine::{Loaded, Step, SLOTS};
+use engine::Loaded;
+use engine::SLOTS;
+use engine::Step;
 use refusals::Refusal;
 use table::Table;
 use verdict::Verdict;
-
 ghost use Prim.Native.Nat.{_≤_};
 ghost use mathlib.Core.List.{_++_};
 ghost use mathlib.Core.Path.{_≡_};
@@ -94,9 +95,17 @@ fn walk(
         let step = engine::next(pred, succ, mem, &*order, len, placed, can);
         match step {
             Step::End => return Outcome::NoneLeft { visited },
-            Step::Place { keep, event, placed: p, can: c } => {
+            Step::Place {
+                keep,
+                event,
+                placed: p,
+                can: c,
+            } => {
                 if visited == budget {
-                    return Outcome::Spent { len: u32::count_ones(placed) as usize, visited };
+                    return Outcome::Spent {
+                        len: u32::count_ones(placed) as usize,
+                        visited,
+                    };
                 }
                 order[keep] = event;
                 len = keep + 1;
@@ -111,11 +120,23 @@ fn walk(
         if !values::values_read(&*order, len, readers, rivals, own, initial, written, stated) {
             continue;
         }
-        if !values::final_values(&*order, len, t.locations, t.stated, writers, starts, written, finals) {
+        if !values::final_values(
+            &*order,
+            len,
+            t.locations,
+            t.stated,
+            writers,
+            starts,
+            written,
+            finals,
+        ) {
             continue;
         }
         if is_witness(t, &*order, len) {
-            return Outcome::Found { len: u32::count_ones(placed) as usize, visited };
+            return Outcome::Found {
+                len: u32::count_ones(placed) as usize,
+                visited,
+            };
         }
     }
 }
@@ -145,8 +166,24 @@ fn run(
     let starts = t.initial;
     let finals = t.finals;
     walk(
-        t, pred, succ, mem, readers, &rivals, &own, &initial, &written, &stated, &writers, &starts, &finals, order, start, first,
-        ready, budget,
+        t,
+        pred,
+        succ,
+        mem,
+        readers,
+        &rivals,
+        &own,
+        &initial,
+        &written,
+        &stated,
+        &writers,
+        &starts,
+        &finals,
+        order,
+        start,
+        first,
+        ready,
+        budget,
     )
 }
 
@@ -194,7 +231,17 @@ pub fn search(t: Table, start: &[u8], out: &mut [u8], allowance: u64) -> Reply
             if ALLOWANCE < allowance {
                 return Reply::Refused(Refusal::Line(17));
             }
-            let outcome = run(t, &pred, &succ, mem, &mut order, len, placed, can, allowance);
+            let outcome = run(
+                t,
+                &pred,
+                &succ,
+                mem,
+                &mut order,
+                len,
+                placed,
+                can,
+                allowance,
+            );
             deliver(outcome, &order, out);
             Reply::Answered(outcome)
         }

@@ -1,5 +1,5 @@
 -- Laws for a loop that tests the bits of a mask, the lowest first, takes each away, and stops at the first that passes.
-use Prim.Native.Nat.{ℕ, _^_, _≤_, _<_}
+use Prim.Native.Nat.{ℕ, _^_, _<_}
 use mathlib.Core.Path.{_≡_, refl, sym, ap, _∙_}
 use mathlib.Core.Bool.{Bool, true, false, _&&_, xor, and-false}
 use native.Mathlib.Omega.{arith}
@@ -19,9 +19,6 @@ module _ (f : ℕ → Bool) (w m : ℕ) where
   -- the bits that were taken from m don't pass: those left in l decide
   abbrev pub Left : ℕ → Type 0
   Left l = (l < 2 ^ w) × (some w (λ k. bit m k && f k) ≡ some w (λ k. bit l k && f k))
-
-  pub left-start : m < 2 ^ w → Left m
-  left-start h = (h, refl)
 
   -- no bit is left: none passes
   pub left-end : (l : ℕ) → Left l → l ≡ 0 → some w (λ k. bit m k && f k) ≡ false

@@ -4,5 +4,4 @@ pub mod ReturnLaws
 pub mod LeftLaws
 pub mod GatherLaws
 pub mod FillLaws
-pub mod MemoryLaws
 pub mod ValueLaws

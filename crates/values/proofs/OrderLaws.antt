@@ -9,7 +9,7 @@ use lib.ListN.{length, getD, take, length-take}
 use lib.Seq.{getD-take}
 use borrow.Author.Tests.{ltb-true, lt-ltb, eqb-true, eq-eqb}
 use Rattle.lists.specs.Below.{below}
-use Rattle.lists.specs.Lists.{all, has, count, distinct, keep}
+use Rattle.lists.specs.Lists.{all, has, count, distinct}
 use Rattle.lists.proofs.BoolLaws.{and-l, and-r}
 use Rattle.lists.proofs.ListLaws.{all-has}
 use Rattle.table.specs.declared.Table.{Table}

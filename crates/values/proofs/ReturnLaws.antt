@@ -5,9 +5,9 @@ use mathlib.Core.Bool.{Bool, true, false, cond, not, _&&_, _||_, or-true, and-tr
 use mathlib.Core.List.{List, [], _∷_, _++_}
 use native.Mathlib.Omega.{arith}
 use lib.Dec.{eqb, ltb}
-use lib.ListN.{length, getD, take, drop, length-take, drop-of-length-le}
+use lib.ListN.{getD, take, drop, length-take, drop-of-length-le}
 use lib.Seq.{split-at, drop-cons, getD-take}
-use borrow.Author.Tests.{eqb-true, eq-eqb, ne-eqb, not-true}
+use borrow.Author.Tests.{eq-eqb, ne-eqb, not-true}
 use Rattle.lists.specs.Lists.{all, has, distinct, before}
 use Rattle.lists.proofs.BoolLaws.{and-l}
 use Rattle.masks.specs.Bit.{bit}

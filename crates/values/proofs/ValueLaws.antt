@@ -6,9 +6,9 @@ use mathlib.Core.List.{List}
 use native.Mathlib.Omega.{arith}
 use lib.Dec.{eqb, ltb}
 use lib.ListN.{getD}
-use borrow.Author.Tests.{ltb-true, lt-ltb, le-ltb, eqb-true, eqb-false, ne-eqb}
+use borrow.Author.Tests.{ltb-true, lt-ltb, le-ltb, eqb-true}
 use Rattle.lists.specs.Below.{some}
-use Rattle.lists.specs.Lists.{all, lastOr}
+use Rattle.lists.specs.Lists.{lastOr}
 use Rattle.lists.specs.Filled.{upTo}
 use Rattle.lists.proofs.BoolLaws.{and-l, and-r, and-taken, and-left, bool-ext}
 use Rattle.lists.proofs.SomeLaws.{some-at, some-found, some-same}
@@ -16,7 +16,7 @@ use Rattle.lists.proofs.FilledLaws.{getD-upTo}
 use Rattle.masks.specs.Bit.{bit}
 use Rattle.edition.specs.Limits.{maxLocations}
 use Rattle.table.specs.declared.Table.{Table}
-use Rattle.table.specs.Events.{capacity, event, location, reads, writes, memory}
+use Rattle.table.specs.Events.{capacity, event, location, reads, memory}
 use Rattle.model.specs.Rules.{initially, nothing, from}
 use Rattle.model.specs.Returns.{visible, returnOf, returnEntry, returns, initialValue, writtenValue, finalValue}
 use Rattle.model.specs.Axioms.{breaksValueRead, breaksFinalValue, valuesRead, finalValues}

@@ -1,4 +1,4 @@
--- What the quick test of an order's values reads in place of the table: masks and values, prepared once for each test.
+-- The quick test of an order's values, and what it reads in place of the table: masks and values, prepared once for each test.
 use Prim.Native.Nat.{ℕ, _≤_}
 use mathlib.Core.Path.{_≡_}
 use mathlib.Core.Bool.{Bool, true, cond, not, _&&_}
@@ -16,11 +16,11 @@ use Rattle.table.specs.Events.{capacity, event, location, reads, writes, sameLo
 use Rattle.model.specs.Rules.{initially}
 use Rattle.model.specs.Returns.{initialValue}
 
--- w writes to the location of reader r and isn't r itself
+-- w is a rival of reader r: it writes to r's location and isn't r itself
 unfoldable pub rival : Table → ℕ → ℕ → Bool
 rival t r w = reads t r && writes t w && sameLocation t w r && not (eqb w r)
 
--- w is a rival of r that is earlier in program order
+-- and is earlier in program order
 unfoldable pub ownRival : Table → ℕ → ℕ → Bool
 ownRival t r w = rival t r w && po t w r
 
@@ -32,7 +32,7 @@ writesTo t x w = writes t w && eqb (location t w) x
 unfoldable pub rivalsOf : Table → ℕ → ℕ
 rivalsOf t r = maskOf (keep (rival t r) (below (t .count)))
 
--- the mask of those earlier in program order
+-- the mask of those that are earlier in program order
 unfoldable pub ownOf : Table → ℕ → ℕ
 ownOf t r = maskOf (keep (ownRival t r) (below (t .count)))
 
@@ -44,7 +44,8 @@ writersOf t x = maskOf (keep (writesTo t x) (below (t .count)))
 unfoldable pub readersOf : Table → ℕ
 readersOf t = maskOf (keep (reads t) (below (t .count)))
 
--- The arrays, one entry for each event, or for each location. A slot past the events is blank: it neither reads nor writes.
+-- The arrays have an entry for each slot of the table, or for each location. No mask names a slot past the events, so that
+-- what stands there doesn't matter.
 abbrev pub rivalMasks : Table → List ℕ
 rivalMasks t = upTo capacity (rivalsOf t)
 
@@ -66,14 +67,14 @@ statedValues t = upTo capacity (λ e. event t e .read)
 abbrev pub initialValues : Table → List ℕ
 initialValues t = upTo capacity (λ e. initialValue t (location t e))
 
--- the first len entries of the array are different events, each with room in a mask
+-- the first len entries of the array, an order, are different and have room in a mask
 pub record Listed (order : List ℕ) (len : ℕ) : Type 0 where
   pub long : length order ≡ capacity
   pub within : len ≤ capacity
   pub fitting : all (λ e. ltb e capacity) (take len order) ≡ true
   pub different : distinct (take len order) ≡ true
 
--- reader r can return from w: a rival if w precedes r in the global memory order, else only an own one
+-- reader r can return from w: from each rival that precedes it in the global memory order (gmo), else from an own one
 unfoldable pub visibleBy : ℕ → ℕ → List ℕ → ℕ → ℕ → Bool
 visibleBy rivals own gmo r w = bit (cond (before gmo w r) rivals own) w
 
@@ -81,11 +82,11 @@ visibleBy rivals own gmo r w = bit (cond (before gmo w r) rivals own) w
 unfoldable pub returnBy : ℕ → ℕ → List ℕ → ℕ → ℕ
 returnBy rivals own gmo r = lastOr (visibleBy rivals own gmo r) initially gmo
 
--- the value that the write w leaves; the initial one if w is no event
+-- the value that the write w leaves, or the initial one if w is no event
 abbrev pub valueBy : List ℕ → ℕ → ℕ → ℕ
 valueBy written initial w = cond (ltb w capacity) (getD written w 0) initial
 
--- reader r, with all arrays: the value that it returns isn't the one stated
+-- the value that reader r returns isn't the one that it states
 unfoldable pub breaksReadBy : List ℕ → List ℕ → List ℕ → List ℕ → List ℕ → List ℕ → ℕ → Bool
 breaksReadBy rivals own initial written stated gmo r =
     not (eqb (valueBy written (getD initial r 0) (returnBy (getD rivals r 0) (getD own r 0) gmo r)) (getD stated r 0))

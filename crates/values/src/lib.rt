@@ -14,12 +14,12 @@ ghost use Rattle.edition.specs.Limits.{maxLocations};
 ghost use Rattle.model.specs.Rules.{initially};
 ghost use Rattle.values.specs.Prepared.{Listed, returnBy, valueBy, valuesReadBy, finalValuesBy};
 
-// What is returned from if no event wrote: the initial write.
+// The initial write, as what is returned from: no event has that number.
 const INITIALLY: u8 = 255;
 
-// What reader `r` returns from in the global memory order, the first `len` entries. Backwards, a write of another hart counts
-// only once `r` is passed, one of the own hart always: a hart sees its own writes early.
-fn return_of(order: &[u8; CAPACITY], len: usize, r: u8, rivals: u32, own: u32) -> u8
+// What reader `r` returns from in the global memory order, the first `len` entries of `order`. Backwards, a rival counts only
+// once `r` is passed, but one that is earlier in program order counts at once: a hart sees its own writes early.
+pub fn return_of(order: &[u8; CAPACITY], len: usize, r: u8, rivals: u32, own: u32) -> u8
     requires { ⌜ Listed (now order) len ⌝ }
     ensures { λ w. ⌜ w ≡ returnBy rivals own (take len (now (order .entry))) r ⌝ }
 {
@@ -38,7 +38,7 @@ fn return_of(order: &[u8; CAPACITY], len: usize, r: u8, rivals: u32, own: u32) -
     INITIALLY
 }
 
-// The last of the writers in the global memory order.
+// The last of the writers in the global memory order, from which the final value comes.
 fn last_write(order: &[u8; CAPACITY], len: usize, writers: u32) -> u8
     requires { ⌜ Listed (now order) len ⌝ }
     ensures { λ w. ⌜ w ≡ lastOr (bit writers) initially (take len (now (order .entry))) ⌝ }
@@ -54,7 +54,7 @@ fn last_write(order: &[u8; CAPACITY], len: usize, writers: u32) -> u8
     INITIALLY
 }
 
-// The write `w` leaves `value`; if `w` is no event, the initial write does.
+// The write `w` leaves `value`, or the initial write does if `w` is no event.
 fn leaves(written: &[u16; CAPACITY], initial: u16, w: u8, value: u16) -> bool
     ensures { λ b. ⌜ b ≡ eqb (valueBy (now (written .entry)) initial w) value ⌝ }
 {
@@ -65,7 +65,7 @@ fn leaves(written: &[u16; CAPACITY], initial: u16, w: u8, value: u16) -> bool
     }
 }
 
-// Each reader returns its stated value: the arrays have an entry for each event.
+// Each reader returns its stated value. The arrays have an entry for each event.
 pub fn values_read(
     order: &[u8; CAPACITY],
     len: usize,
@@ -94,7 +94,7 @@ pub fn values_read(
     true
 }
 
-// Each stated final value is that of its location's last write: `writers`, `initial` and `finals` have an entry for each location.
+// Each stated final value is that of its location's last write. All arrays but `written` have an entry for each location.
 pub fn final_values(
     order: &[u8; CAPACITY],
     len: usize,

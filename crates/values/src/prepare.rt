@@ -9,8 +9,7 @@ ghost use Prim.Native.Nat.{_^_, _≤_, _<_};
 ghost use mathlib.Core.Path.{_≡_};
 ghost use mathlib.Core.Bool.{cond, not, _&&_};
 ghost use lib.Dec.{eqb};
-ghost use Rattle.masks.specs.MaskOf.{maskOf};
-ghost use Rattle.table.specs.Events.{capacity, readingKind, writingKind, memoryEvents};
+ghost use Rattle.table.specs.Events.{capacity, readingKind, writingKind};
 ghost use Rattle.model.specs.Returns.{initialValue};
 ghost use Rattle.values.specs.Prepared.{rivalsOf, ownOf, writersOf, readersOf};
 ghost use Rattle.values.specs.Prepared.{rivalMasks, ownMasks, writerMasks, writtenValues, statedValues, initialValues};
@@ -23,20 +22,7 @@ fn one_if(passes: bool, e: u8) -> u32
     if passes { masks::one(e as u32) } else { 0 }
 }
 
-// The mask of the events that read or write: an order has placed all of them.
-pub fn memory_mask(t: Table) -> u32
-    requires { ⌜ t .count ≤ capacity ⌝ }
-    ensures { λ m. ⌜ m ≡ maskOf (memoryEvents t) ⌝ }
-{
-    let mut mask: u32 = 0;
-    let mut e: u8 = 0;
-    while e < t.count {
-        mask = mask | one_if(table::memory(t.events[e as usize]), e);
-        e += 1;
-    }
-    mask
-}
-
+// The mask of the readers.
 pub fn readers(t: Table) -> u32
     requires { ⌜ t .count ≤ capacity ⌝ }
     ensures { λ m. ⌜ m ≡ readersOf t ⌝ }
@@ -50,6 +36,7 @@ pub fn readers(t: Table) -> u32
     mask
 }
 
+// The mask of the writers to location x, the last of which leaves its final value.
 fn writers_of(t: Table, x: LocationNo) -> u32
     requires { ⌜ t .count ≤ capacity ⌝ }
     ensures { λ m. ⌜ m ≡ writersOf t (x .0) ⌝ }
@@ -64,7 +51,7 @@ fn writers_of(t: Table, x: LocationNo) -> u32
     mask
 }
 
-// Event w, which is y, is a rival of event r, which is x.
+// Event w, which is y, is a rival of event r, which is x: r may return from it.
 fn rival(r: EventNo, x: Event, w: EventNo, y: Event) -> bool
     ensures { λ b. ⌜ b ≡
         (readingKind (x .kind) && writingKind (y .kind) && eqb (y .location .0) (x .location .0) && not (eqb (w .0) (r .0))) ⌝ }
@@ -72,6 +59,7 @@ fn rival(r: EventNo, x: Event, w: EventNo, y: Event) -> bool
     table::reads(x) & table::writes(y) & table::same_location(y, x) & (w.0 != r.0)
 }
 
+// The mask of the rivals of r.
 fn rivals_of(t: Table, r: EventNo) -> u32
     requires { ⌜ (r .0 < capacity) × (t .count ≤ capacity) ⌝ }
     ensures { λ m. ⌜ m ≡ rivalsOf t (r .0) ⌝ }
@@ -86,6 +74,7 @@ fn rivals_of(t: Table, r: EventNo) -> u32
     mask
 }
 
+// The mask of the rivals of r that are earlier in program order.
 fn own_of(t: Table, r: EventNo) -> u32
     requires { ⌜ (r .0 < capacity) × (t .count ≤ capacity) ⌝ }
     ensures { λ m. ⌜ m ≡ ownOf t (r .0) ⌝ }
@@ -165,7 +154,7 @@ pub fn stated_values(t: Table) -> [u16; CAPACITY]
     list
 }
 
-// The initial value at the location of event `e`; 0 if a table has no room for the location.
+// The initial value at the location of `e`. A table that reading refuses may name a location that it has no room for.
 fn initial_at(t: Table, e: Event) -> u16
     ensures { λ v. ⌜ v ≡ initialValue t (e .location .0) ⌝ }
 {

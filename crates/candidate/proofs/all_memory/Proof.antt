@@ -60,12 +60,11 @@ loop-less c = search needs
 
 loop-again : tie.Need-loop-again Inv-loop μ-loop
 unfolding isMemoryEvent memory reads writes kind event
-loop-again c =
-    (
-    omega arith,
-    all-more _ (c .before .before .before .before .before .before .before .before .args .gmo .now) (c .before .before .before .before .before .before .loop .i) (omega arith) (c .before .before .before .before .before .before .loop .inv .1)
-    (and-both _ _ (lt-ltb _ _ (c .before .before .before .if1 .left)) (sym (c .before .memory .ensures) ∙ not-false _ (c .if2 .left)))
-    )
+loop-again c = (
+  omega arith,
+  all-more _ (c .before .before .before .before .before .before .before .before .args .gmo .now) (c .before .before .before .before .before .before .loop .i) (omega arith) (c .before .before .before .before .before .before .loop .inv .1)
+      (and-both _ _ (lt-ltb _ _ (c .before .before .before .if1 .left)) (sym (c .before .memory .ensures) ∙ not-false _ (c .if2 .left))),
+)
 
 returns-3 : tie.Need-returns-3 Inv-loop μ-loop
 returns-3 c = sym (rw (take-all (c .before .loop .i) (c .before .before .before .args .gmo .now) (omega arith)) at (c .before .loop .inv .1))

@@ -34,12 +34,11 @@ loop-less : tie.Need-loop-less Inv-loop μ-loop
 loop-less c = search needs
 
 loop-again : tie.Need-loop-again Inv-loop μ-loop
-loop-again c =
-    (
-    omega arith,
-    rw (c .before .before .before .loop .inv .1, c .same .ensures .0) (sym (count-more _ (c .before .before .before .before .before .args .gmo .now) (c .before .before .before .loop .i) (omega arith))),
-    omega (arith, c .same .ensures .1)
-    )
+loop-again c = (
+  omega arith,
+  rw (c .before .before .before .loop .inv .1, c .same .ensures .0) (sym (count-more _ (c .before .before .before .before .before .args .gmo .now) (c .before .before .before .loop .i) (omega arith))),
+  omega (arith, c .same .ensures .1),
+)
 
 returns : tie.Need-returns Inv-loop μ-loop
 returns c = c .before .loop .inv .1 ∙ ap (count (c .before .before .before .args .e .0)) (take-all (c .before .loop .i) (c .before .before .before .args .gmo .now) (omega arith))

@@ -34,11 +34,10 @@ loop-less c = search needs
 loop-again : tie.Need-loop-again Inv-loop μ-loop
 loop-again c =
     let v = c .before .before .loop in
-    let a = c .before .before .before .args in
-    (
-    omega arith,
-    simp length-set (v .inv .1),
-    copy-more (a .order .now) (a .out .now) (v .out) (v .i) (v .inv .2) (omega arith) (omega arith)
+    let a = c .before .before .before .args in (
+      omega arith,
+      simp length-set (v .inv .1),
+      copy-more (a .order .now) (a .out .now) (v .out) (v .i) (v .inv .2) (omega arith) (omega arith),
     )
 
 same-length : tie.Need-same-length Inv-loop μ-loop

@@ -25,9 +25,9 @@ writer-masks-requires : tie.Need-writer-masks-requires
 writer-masks-requires c κs = search needs
 
 walk-requires : tie.Need-walk-requires
-walk-requires c κs =
-    (c .before .before .before .before .before .before .before .before .before .before .before .before .before .before .before .before .before .before .pre,
-    record {
+walk-requires c κs = (
+  c .before .before .before .before .before .before .before .before .before .before .before .before .before .before .before .before .before .before .pre,
+  record {
     reader-mask = c .before .before .before .before .before .before .before .before .before .before .before .before .before .before .before .before .before .readers .ensures;
     rival-masks = c .before .before .before .before .before .before .before .before .before .before .before .before .before .before .before .before .rival-masks .ensures;
     own-masks = c .before .before .before .before .before .before .before .before .before .before .before .before .before .before .before .own-masks .ensures;
@@ -37,7 +37,8 @@ walk-requires c κs =
     writer-masks = c .before .before .before .before .before .before .before .before .before .before .before .writer-masks .ensures;
     location-values = refl;
     final-values = refl;
-    })
+  },
+)
 
 returns : tie.Need-returns
 returns c = search needs

@@ -49,11 +49,10 @@ deliver-requires : tie.Need-deliver-requires
 deliver-requires c κs =
     let r = c .before .before .run .ensures in
     let k = counted (c .before .before .before .before .before .before .before .before .before .before .before .before .before .before .before .before .before .before .before .before .before .pre) (c .before .before .before .before .before .before .before .before .before .before .before .before .before .before .before .before .before .before .predecessors .ensures) (c .before .before .before .before .before .before .before .before .before .before .before .before .before .before .before .before .before .memory-mask .ensures) in
-    let n = memoryCount (c .before .before .before .before .before .before .before .before .before .before .before .before .before .before .before .before .before .before .before .before .before .args .t) in
-    (
-    r .long,
-    at-most (c .before .before .run .result) n slots (count-small (c .before .before .before .before .before .before .before .before .before .before .before .before .before .before .before .before .before .before .before .before .before .pre) (c .before .before .before .before .before .before .before .before .before .before .before .before .before .before .before .before .before .before .predecessors .ensures) (c .before .before .before .before .before .before .before .before .before .before .before .before .before .before .before .before .before .memory-mask .ensures)) (r .short),
-    at-most (c .before .before .run .result) n (length (c .before .before .before .before .before .before .before .before .before .before .before .before .before .before .before .before .before .before .before .before .before .args .out .now)) (omega arith) (r .short)
+    let n = memoryCount (c .before .before .before .before .before .before .before .before .before .before .before .before .before .before .before .before .before .before .before .before .before .args .t) in (
+      r .long,
+      at-most (c .before .before .run .result) n slots (count-small (c .before .before .before .before .before .before .before .before .before .before .before .before .before .before .before .before .before .before .before .before .before .pre) (c .before .before .before .before .before .before .before .before .before .before .before .before .before .before .before .before .before .before .predecessors .ensures) (c .before .before .before .before .before .before .before .before .before .before .before .before .before .before .before .before .before .memory-mask .ensures)) (r .short),
+      at-most (c .before .before .run .result) n (length (c .before .before .before .before .before .before .before .before .before .before .before .before .before .before .before .before .before .before .before .before .before .args .out .now)) (omega arith) (r .short),
     )
 
 returns-3 : tie.Need-returns-3

@@ -57,12 +57,11 @@ onward c w =
     let s = c .before .before .before .before .before .before .before in
     let g = c .before .before .step .given .0 in
     let o = set (v .order) (g .0) (g .1 .0) in
-    let m = moved (c .before .before) in
-    (
-    omega arith,
-    m .holds,
-    v .inv .2 ∙ run-on (s .pre .0 .0) (v .inv .1) m _ _ (s .args .budget - (v .visited + 1)) (budget-left c) w
-    ∙ ap (searchFrom (s .args .t) (take (g .0 + 1) o) (s .args .budget - (v .visited + 1))) (sym (add-one (v .visited)))
+    let m = moved (c .before .before) in (
+      omega arith,
+      m .holds,
+      v .inv .2 ∙ run-on (s .pre .0 .0) (v .inv .1) m _ _ (s .args .budget - (v .visited + 1)) (budget-left c) w
+          ∙ ap (searchFrom (s .args .t) (take (g .0 + 1) o) (s .args .budget - (v .visited + 1))) (sym (add-one (v .visited))),
     )
 
 -- the prefix visited has all memory events: it is an order
@@ -104,10 +103,10 @@ returns c =
     let v = c .before .before .before .before .loop in
     let a = c .before .before .before .before .before .args in
     record {
-    answer = sym (v .inv .2 ∙ run-none (c .before .before .before .before .before .pre .0 .0) (v .inv .1) _ _
-    (subst (NextIs (a .pred .now) (a .mem) (v .order) (v .len)) (c .enum-told .given .1) (c .before .before .next .ensures)));
-    long = v .inv .1 .long;
-    short = tt;
+      answer = sym (v .inv .2 ∙ run-none (c .before .before .before .before .before .pre .0 .0) (v .inv .1) _ _
+          (subst (NextIs (a .pred .now) (a .mem) (v .order) (v .len)) (c .enum-told .given .1) (c .before .before .next .ensures)));
+      long = v .inv .1 .long;
+      short = tt;
     }
 
 enum-known-step : tie.Need-enum-known-step Inv-loop μ-loop
@@ -122,10 +121,10 @@ returns-2 : tie.Need-returns-2 Inv-loop μ-loop
 returns-2 c =
     let v = c .before .before .before .before .before .before .loop in
     record {
-    answer = sym (v .inv .2 ∙ run-spent (c .before .before .before .before .before .before .before .pre .0 .0) (v .inv .1) (moved (c .before .before)) _ _ (omega arith)
-    ∙ ap (λ (n : ℕ). spent (take n (v .order)) (v .visited)) (v .inv .1 .counted));
-    long = v .inv .1 .long;
-    short = held-short (c .before .before .before .before .before .before .before .pre .0 .0) (v .inv .1);
+      answer = sym (v .inv .2 ∙ run-spent (c .before .before .before .before .before .before .before .pre .0 .0) (v .inv .1) (moved (c .before .before)) _ _ (omega arith)
+          ∙ ap (λ (n : ℕ). spent (take n (v .order)) (v .visited)) (v .inv .1 .counted));
+      long = v .inv .1 .long;
+      short = held-short (c .before .before .before .before .before .before .before .pre .0 .0) (v .inv .1);
     }
 
 element-write-order : tie.Need-element-write-order Inv-loop μ-loop
@@ -185,11 +184,11 @@ returns-3 c =
     let s = c .before .before .before .before .before .before .before .before .before .before .before .before .before .before .before .before .before in
     let m = moved (c .before .before .before .before .before .before .before .before .before .before .before .before) in
     record {
-    answer = sym (v .inv .2 ∙ run-found (s .pre .0 .0) (v .inv .1) m _ _ (s .args .budget - (v .visited + 1)) (budget-left (c .before .before .before .before .before .before .before .before .before .before)) (sym (c .before .is-witness .ensures) ∙ c .if5 .taken)
-    ∙ ap (λ (n : ℕ). found (take n (set (v .order) (c .before .before .before .before .before .before .before .before .before .before .before .before .step .given .0 .0) (c .before .before .before .before .before .before .before .before .before .before .before .before .step .given .0 .1 .0))) (suc (v .visited))) (m .holds .counted)
-    ∙ ap (found (take (ones (c .before .before .before .before .before .before .before .before .before .before .before .before .step .given .0 .1 .1 .0)) (set (v .order) (c .before .before .before .before .before .before .before .before .before .before .before .before .step .given .0 .0) (c .before .before .before .before .before .before .before .before .before .before .before .before .step .given .0 .1 .0)))) (sym (add-one (v .visited))));
-    long = m .holds .long;
-    short = held-short (s .pre .0 .0) (m .holds);
+      answer = sym (v .inv .2 ∙ run-found (s .pre .0 .0) (v .inv .1) m _ _ (s .args .budget - (v .visited + 1)) (budget-left (c .before .before .before .before .before .before .before .before .before .before)) (sym (c .before .is-witness .ensures) ∙ c .if5 .taken)
+          ∙ ap (λ (n : ℕ). found (take n (set (v .order) (c .before .before .before .before .before .before .before .before .before .before .before .before .step .given .0 .0) (c .before .before .before .before .before .before .before .before .before .before .before .before .step .given .0 .1 .0))) (suc (v .visited))) (m .holds .counted)
+          ∙ ap (found (take (ones (c .before .before .before .before .before .before .before .before .before .before .before .before .step .given .0 .1 .1 .0)) (set (v .order) (c .before .before .before .before .before .before .before .before .before .before .before .before .step .given .0 .0) (c .before .before .before .before .before .before .before .before .before .before .before .before .step .given .0 .1 .0)))) (sym (add-one (v .visited))));
+      long = m .holds .long;
+      short = held-short (s .pre .0 .0) (m .holds);
     }
 
 loop-less-4 : tie.Need-loop-less-4 Inv-loop μ-loop

@@ -1,12 +1,13 @@
-use Rattle.lists.proofs.BoolLaws.{and-left}
+-- `final_values`: the locations passed have their stated final values.
+use Prim.Native.Nat.{_-_}
 use mathlib.Core.Logic.{⊎-elim}
 use mathlib.Core.Bool.{Bool, true, false, not, _&&_}
-use Rattle.values.specs.Prepared.{finalValuesBy, breaksFinalBy}
-use Rattle.lists.proofs.ScanLaws.{Scanned, scan-start, scan-more, some-hit, some-end}
-use lib.ListN.{take}
-use mathlib.Core.Path.{_≡_, ap, sym, _∙_}
+use mathlib.Core.Path.{_≡_, ap, sym}
 use native.Mathlib.Omega.{arith}
-use Prim.Native.Nat.{_-_}
+use lib.ListN.{take}
+use Rattle.lists.proofs.BoolLaws.{and-left}
+use Rattle.lists.proofs.ScanLaws.{Scanned, scan-start, scan-more, some-hit, some-end}
+use Rattle.values.specs.Prepared.{finalValuesBy, breaksFinalBy}
 use borrow.Author.Needs.{needs}
 use Rattle.values.proofs.final_values.Statement.{statement}
 use Rattle.values.proofs.final_values.Tie as tie

@@ -1,9 +1,10 @@
+-- `last_write`: what is passed is none of the writers.
+use Prim.Native.Nat.{_-_}
+use native.Mathlib.Omega.{arith}
+use Rattle.masks.specs.Bit.{bit}
+use Rattle.model.specs.Rules.{initially}
 use Rattle.values.proofs.LastLaws.{Behind, behind-start, behind-more, behind-hit, behind-end}
 use Rattle.values.proofs.OrderLaws.{listed-at}
-use Rattle.model.specs.Rules.{initially}
-use Rattle.masks.specs.Bit.{bit}
-use native.Mathlib.Omega.{arith}
-use Prim.Native.Nat.{_-_}
 use borrow.Author.Needs.{needs}
 use Rattle.values.proofs.last_write.Statement.{statement}
 use Rattle.values.proofs.last_write.Tie as tie

@@ -1,8 +1,8 @@
+-- `return_of`: what is passed is not returned from, and the mask says whether the reader is passed.
 use Prim.Native.Nat.{_-_}
-use Rattle.values.proofs.OrderLaws.{listed-at}
 use native.Mathlib.Omega.{arith}
+use Rattle.values.proofs.OrderLaws.{listed-at}
 use Rattle.values.proofs.ReturnLaws.{Passed, passed-start, passed-hit, passed-reader, passed-other, passed-end}
-use lib.ListN.{take}
 use borrow.Author.Needs.{needs}
 use Rattle.values.proofs.return_of.Statement.{statement}
 use Rattle.values.proofs.return_of.Tie as tie

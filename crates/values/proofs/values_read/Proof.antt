@@ -1,11 +1,12 @@
-use Rattle.values.proofs.LeftLaws.{Left, left-start, left-lowest, left-hit, left-more, left-less, left-end}
-use Rattle.values.specs.Prepared.{valuesReadBy, breaksReadBy}
-use Rattle.table.specs.Events.{capacity}
-use lib.ListN.{take}
-use mathlib.Core.Bool.{not}
-use mathlib.Core.Path.{_≡_, ap, sym, _∙_}
-use native.Mathlib.Omega.{arith}
+-- `values_read`: the readers taken from the mask return their stated values.
 use Prim.Native.Nat.{_<_}
+use mathlib.Core.Bool.{not}
+use mathlib.Core.Path.{ap, sym}
+use native.Mathlib.Omega.{arith}
+use lib.ListN.{take}
+use Rattle.table.specs.Events.{capacity}
+use Rattle.values.specs.Prepared.{valuesReadBy, breaksReadBy}
+use Rattle.values.proofs.LeftLaws.{Left, left-lowest, left-hit, left-more, left-less, left-end}
 use borrow.Author.Needs.{needs}
 use Rattle.values.proofs.values_read.Statement.{statement}
 use Rattle.values.proofs.values_read.Tie as tie

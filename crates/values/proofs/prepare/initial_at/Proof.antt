@@ -1,11 +1,10 @@
-use Rattle.edition.specs.Limits.{maxLocations}
-use lib.ListN.{length}
 use mathlib.Core.Path.{_≡_}
-use Prim.Native.Nat.{_≤_}
-use Rattle.model.specs.Returns.{initialValue}
-use lib.ListN.{List·getD-eq-default}
-use native.Mathlib.Omega.{arith}
 use mathlib.Core.Path.{sym}
+use native.Mathlib.Omega.{arith}
+use lib.ListN.{length}
+use lib.ListN.{List·getD-eq-default}
+use Rattle.edition.specs.Limits.{maxLocations}
+use Rattle.model.specs.Returns.{initialValue}
 use borrow.Author.Needs.{needs}
 use Rattle.values.proofs.prepare.initial_at.Statement.{statement}
 use Rattle.values.proofs.prepare.initial_at.Tie as tie

@@ -1,8 +1,8 @@
-use Rattle.values.proofs.FillLaws.{Filled, fill-start, fill-more, fill-end}
-use native.Mathlib.Omega.{arith}
-use Rattle.model.specs.Returns.{initialValue}
-use Rattle.table.specs.Events.{capacity, event, location}
 use Prim.Native.Nat.{ℕ, _-_}
+use native.Mathlib.Omega.{arith}
+use Rattle.table.specs.Events.{capacity, event, location}
+use Rattle.model.specs.Returns.{initialValue}
+use Rattle.values.proofs.FillLaws.{Filled, fill-start, fill-more, fill-end}
 use borrow.Author.Needs.{needs}
 use Rattle.values.proofs.prepare.initial_values.Statement.{statement}
 use Rattle.values.proofs.prepare.initial_values.Tie as tie

@@ -1,8 +1,8 @@
-use Rattle.values.proofs.FillLaws.{Filled, fill-start, fill-more, fill-end}
 use Prim.Native.Nat.{_-_}
-use Rattle.values.specs.Prepared.{ownOf}
-use Rattle.table.specs.Events.{capacity}
 use native.Mathlib.Omega.{arith}
+use Rattle.table.specs.Events.{capacity}
+use Rattle.values.specs.Prepared.{ownOf}
+use Rattle.values.proofs.FillLaws.{Filled, fill-start, fill-more, fill-end}
 use borrow.Author.Needs.{needs}
 use Rattle.values.proofs.prepare.own_masks.Statement.{statement}
 use Rattle.values.proofs.prepare.own_masks.Tie as tie

@@ -1,8 +1,8 @@
-use Rattle.values.proofs.FillLaws.{Filled, fill-start, fill-more, fill-end}
 use Prim.Native.Nat.{_-_}
-use Rattle.values.specs.Prepared.{writersOf}
-use Rattle.edition.specs.Limits.{maxLocations}
 use native.Mathlib.Omega.{arith}
+use Rattle.edition.specs.Limits.{maxLocations}
+use Rattle.values.specs.Prepared.{writersOf}
+use Rattle.values.proofs.FillLaws.{Filled, fill-start, fill-more, fill-end}
 use borrow.Author.Needs.{needs}
 use Rattle.values.proofs.prepare.writer_masks.Statement.{statement}
 use Rattle.values.proofs.prepare.writer_masks.Tie as tie

@@ -1,8 +1,8 @@
-use Rattle.values.specs.Prepared.{writersOf, writesTo}
-use Rattle.table.specs.Events.{writes, location, kind, event}
-use Rattle.values.proofs.GatherLaws.{Gathered, gather-start, gather-more, gather-end}
-use native.Mathlib.Omega.{arith}
 use Prim.Native.Nat.{_-_}
+use native.Mathlib.Omega.{arith}
+use Rattle.table.specs.Events.{writes, location, kind, event}
+use Rattle.values.specs.Prepared.{writersOf, writesTo}
+use Rattle.values.proofs.GatherLaws.{Gathered, gather-start, gather-more, gather-end}
 use borrow.Author.Needs.{needs}
 use Rattle.values.proofs.prepare.writers_of.Statement.{statement}
 use Rattle.values.proofs.prepare.writers_of.Tie as tie

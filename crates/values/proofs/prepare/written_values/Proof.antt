@@ -1,8 +1,8 @@
-use Rattle.values.proofs.FillLaws.{Filled, fill-start, fill-more, fill-end}
-use mathlib.Core.Path.{refl}
 use Prim.Native.Nat.{ℕ, _-_}
-use Rattle.table.specs.Events.{capacity, event}
+use mathlib.Core.Path.{refl}
 use native.Mathlib.Omega.{arith}
+use Rattle.table.specs.Events.{capacity, event}
+use Rattle.values.proofs.FillLaws.{Filled, fill-start, fill-more, fill-end}
 use borrow.Author.Needs.{needs}
 use Rattle.values.proofs.prepare.written_values.Statement.{statement}
 use Rattle.values.proofs.prepare.written_values.Tie as tie
