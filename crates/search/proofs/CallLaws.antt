@@ -40,6 +40,10 @@ at-most (Spent len v) m n h a = omega arith
 pub ran-from : {t : Table} {p q : List ℕ} {b : ℕ} {o : Outcome} {order : List ℕ} → p ≡ q → Ran t p b o order → Ran t q b o order
 ran-from {t} {b = b} {o = o} {order = order} e r = subst (λ (l : List ℕ). Ran t l b o order) e r
 
+-- an outcome that is the same
+pub ran-as : {t : Table} {p : List ℕ} {b : ℕ} {o q : Outcome} {order : List ℕ} → o ≡ q → Ran t p b q order → Ran t p b o order
+ran-as {t} {p} {b} {order = order} e r = subst (λ (x : Outcome). Ran t p b x order) (sym e) r
+
 -- a prefix handed out stands at the buffer's front, and the bytes past it stay
 front : (len : ℕ) (order out : List ℕ) → len ≤ length order →
     (take len (take len order ++ drop len out) ≡ take len order) × (take len order ++ drop len out ≡ written (take len order) out)

@@ -11,6 +11,7 @@ ghost use mathlib.Core.List.{_++_};
 ghost use mathlib.Core.Path.{_≡_};
 ghost use mathlib.Core.Bool.{true};
 ghost use lib.ListN.{length, take, drop};
+ghost use lib.Count.{ones};
 ghost use Rattle.model.specs.Witness.{isOrder, witness};
 ghost use Rattle.engine.specs.CleanMasks.{slots};
 ghost use Rattle.engine.specs.State.{Holds};
@@ -58,6 +59,25 @@ fn is_witness(t: Table, order: &[u8; SLOTS], len: usize) -> bool
     is_allowed(t, &entries[..len], &mut returned)
 }
 
+// The length of a prefix is the ones of its mask.
+fn found(placed: u32, visited: u64) -> Outcome
+    ensures { λ r. ⌜ r ≡ Outcome.Found (ones placed) visited ⌝ }
+{
+    Outcome::Found {
+        len: u32::count_ones(placed) as usize,
+        visited,
+    }
+}
+
+fn spent(placed: u32, visited: u64) -> Outcome
+    ensures { λ r. ⌜ r ≡ Outcome.Spent (ones placed) visited ⌝ }
+{
+    Outcome::Spent {
+        len: u32::count_ones(placed) as usize,
+        visited,
+    }
+}
+
 // Visits the clean prefixes greater than the order's, ascending. The budget is tested once the next prefix is known and
 // before it is stored: "spent" keeps the last prefix visited, and there must be a further one. Of a whole order the values
 // are tested first: they are cheap and usually fail. The facts of the table are lent one by one, since a struct by value
@@ -102,10 +122,7 @@ fn walk(
                 can: c,
             } => {
                 if visited == budget {
-                    return Outcome::Spent {
-                        len: u32::count_ones(placed) as usize,
-                        visited,
-                    };
+                    return spent(placed, visited);
                 }
                 order[keep] = event;
                 len = keep + 1;
@@ -133,10 +150,7 @@ fn walk(
             continue;
         }
         if is_witness(t, &*order, len) {
-            return Outcome::Found {
-                len: u32::count_ones(placed) as usize,
-                visited,
-            };
+            return found(placed, visited);
         }
     }
 }

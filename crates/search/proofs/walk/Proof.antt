@@ -1,3 +1,4 @@
+use Rattle.search.proofs.CallLaws.{ran-as}
 use Prim.Native.Nat.{ℕ, suc, _+_, _-_, _≤_}
 use mathlib.Core.Path.{_≡_, ap, sym, subst, _∙_}
 use mathlib.Core.Bool.{true, false}
@@ -112,19 +113,17 @@ returns c =
 enum-known-step : tie.Need-enum-known-step Inv-loop μ-loop
 enum-known-step c = search needs
 
-cast-t33 : tie.Need-cast-t33 Inv-loop μ-loop
-cast-t33 c =
-    let v = c .before .before .before .before .before .before .loop in
-    omega (arith, v .inv .1 .counted, held-long (c .before .before .before .before .before .before .before .pre .0 .0) (v .inv .1), length-take (v .len) (v .order), v .inv .1 .long)
+spent-requires : tie.Need-spent-requires Inv-loop μ-loop
+spent-requires c κs = search needs
 
 returns-2 : tie.Need-returns-2 Inv-loop μ-loop
 returns-2 c =
-    let v = c .before .before .before .before .before .before .loop in
-    record {
-      answer = sym (v .inv .2 ∙ run-spent (c .before .before .before .before .before .before .before .pre .0 .0) (v .inv .1) (moved (c .before .before)) _ _ (omega arith)
+    let v = c .before .before .before .before .before .before .before .loop in
+    ran-as (c .spent .ensures) record {
+      answer = sym (v .inv .2 ∙ run-spent (c .before .before .before .before .before .before .before .before .pre .0 .0) (v .inv .1) (moved (c .before .before .before)) _ _ (omega arith)
           ∙ ap (λ (n : ℕ). spent (take n (v .order)) (v .visited)) (v .inv .1 .counted));
       long = v .inv .1 .long;
-      short = held-short (c .before .before .before .before .before .before .before .pre .0 .0) (v .inv .1);
+      short = held-short (c .before .before .before .before .before .before .before .before .pre .0 .0) (v .inv .1);
     }
 
 element-write-order : tie.Need-element-write-order Inv-loop μ-loop
@@ -173,20 +172,18 @@ is-witness-requires c κs =
     let m = moved (c .before .before .before .before .before .before .before .before .before .before) in
     (c .before .before .before .before .before .before .before .before .before .before .before .before .before .before .before .pre .0 .0 .small, m .holds .long, omega (arith, m .room), whole (c .before .before .before .before .before .before .before))
 
-cast-t43 : tie.Need-cast-t43 Inv-loop μ-loop
-cast-t43 c =
-    let m = moved (c .before .before .before .before .before .before .before .before .before .before .before .before) in
-    omega (arith, m .holds .counted, m .room)
+found-requires : tie.Need-found-requires Inv-loop μ-loop
+found-requires c κs = search needs
 
 returns-3 : tie.Need-returns-3 Inv-loop μ-loop
 returns-3 c =
-    let v = c .before .before .before .before .before .before .before .before .before .before .before .before .before .before .before .before .loop in
-    let s = c .before .before .before .before .before .before .before .before .before .before .before .before .before .before .before .before .before in
-    let m = moved (c .before .before .before .before .before .before .before .before .before .before .before .before) in
-    record {
-      answer = sym (v .inv .2 ∙ run-found (s .pre .0 .0) (v .inv .1) m _ _ (s .args .budget - (v .visited + 1)) (budget-left (c .before .before .before .before .before .before .before .before .before .before)) (sym (c .before .is-witness .ensures) ∙ c .if5 .taken)
-          ∙ ap (λ (n : ℕ). found (take n (set (v .order) (c .before .before .before .before .before .before .before .before .before .before .before .before .step .given .0 .0) (c .before .before .before .before .before .before .before .before .before .before .before .before .step .given .0 .1 .0))) (suc (v .visited))) (m .holds .counted)
-          ∙ ap (found (take (ones (c .before .before .before .before .before .before .before .before .before .before .before .before .step .given .0 .1 .1 .0)) (set (v .order) (c .before .before .before .before .before .before .before .before .before .before .before .before .step .given .0 .0) (c .before .before .before .before .before .before .before .before .before .before .before .before .step .given .0 .1 .0)))) (sym (add-one (v .visited))));
+    let v = c .before .before .before .before .before .before .before .before .before .before .before .before .before .before .before .before .before .loop in
+    let s = c .before .before .before .before .before .before .before .before .before .before .before .before .before .before .before .before .before .before in
+    let m = moved (c .before .before .before .before .before .before .before .before .before .before .before .before .before) in
+    ran-as (c .found .ensures) record {
+      answer = sym (v .inv .2 ∙ run-found (s .pre .0 .0) (v .inv .1) m _ _ (s .args .budget - (v .visited + 1)) (budget-left (c .before .before .before .before .before .before .before .before .before .before .before)) (sym (c .before .before .is-witness .ensures) ∙ c .before .if5 .taken)
+          ∙ ap (λ (n : ℕ). found (take n (set (v .order) (c .before .before .before .before .before .before .before .before .before .before .before .before .before .step .given .0 .0) (c .before .before .before .before .before .before .before .before .before .before .before .before .before .step .given .0 .1 .0))) (suc (v .visited))) (m .holds .counted)
+          ∙ ap (found (take (ones (c .before .before .before .before .before .before .before .before .before .before .before .before .before .step .given .0 .1 .1 .0)) (set (v .order) (c .before .before .before .before .before .before .before .before .before .before .before .before .before .step .given .0 .0) (c .before .before .before .before .before .before .before .before .before .before .before .before .before .step .given .0 .1 .0)))) (sym (add-one (v .visited))));
       long = m .holds .long;
       short = held-short (s .pre .0 .0) (m .holds);
     }
@@ -209,7 +206,7 @@ walk-spec =
     enum-told
     returns
     enum-known-step
-    cast-t33
+    spent-requires
     returns-2
     element-write-order
     add-len
@@ -223,7 +220,7 @@ walk-spec =
     loop-less-3
     loop-again-3
     is-witness-requires
-    cast-t43
+    found-requires
     returns-3
     loop-less-4
     loop-again-4)

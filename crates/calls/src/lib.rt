@@ -1,0 +1,81 @@
+// The streams of calls that the test programs read: a tag, then what that call is given. And how its answer is printed.
+use console::Input;
+use refusals::Refusal;
+ghost use Prim.Native.Nat.{_≤_};
+
+// A call that lends the block of those after it.
+pub const LEND: u8 = b'B';
+
+// No block of a stream is longer.
+pub const BLOCK: usize = 2048;
+
+// How many values two bytes have.
+const WORDS: u64 = 65_536;
+
+// Lists and answer buffers are shorter: their length is one byte.
+pub const LIST: usize = 256;
+
+// What an answer buffer holds before the call.
+pub const PREFILL: u8 = 0xEE;
+
+pub fn length() -> usize
+    ensures { λ r. ⌜ r ≤ 255 ⌝ }
+{
+    match console::byte() {
+        Input::Byte(b) => b as usize,
+        Input::End => 0,
+    }
+}
+
+// Reads a list, a length and that many bytes; answers how many came.
+pub fn list(buffer: &mut [u8]) -> usize {
+    let n = length();
+    console::read(buffer, n)
+}
+
+// Reads a block, a length of two bytes and that many bytes; answers how many came.
+pub fn block(buffer: &mut [u8]) -> usize {
+    let n = console::word();
+    console::read(buffer, n as usize)
+}
+
+// A number of eight bytes, the lowest first.
+pub fn allowance() -> u64 {
+    let a = console::word();
+    let b = console::word();
+    let c = console::word();
+    let d = console::word();
+    a + WORDS * (b + WORDS * (c + WORDS * d))
+}
+
+// The first n bytes, as far as there are so many.
+pub fn front(bytes: &[u8], n: usize) -> &[u8] {
+    if n <= bytes.len() { &bytes[..n] } else { bytes }
+}
+
+// Begins the line of call k.
+pub fn begin(k: u64) {
+    console::number(k);
+    console::print(b": ");
+}
+
+// `None` is no refusal, and no entry says that it refuses by it.
+pub fn refused(r: Refusal) {
+    console::print(b"refused ");
+    match r {
+        Refusal::None => console::number(0),
+        Refusal::Line(n) => console::number(console::wide(n)),
+        Refusal::Record(n, k) => {
+            console::number(console::wide(n));
+            console::print(b", record ");
+            console::number(console::wide(k.0));
+        }
+    }
+}
+
+// Ends the line of a call that was lent an answer buffer: the whole of it, as it now is.
+pub fn end(answer: &[u8]) {
+    console::print(b", buffer");
+    console::list(answer, answer.len());
+    console::print(b"\n");
+}

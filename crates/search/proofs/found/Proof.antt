@@ -1,0 +1,14 @@
+use native.Mathlib.Omega.{arith}
+use lib.Count.{ones-le}
+use borrow.Author.Needs.{needs}
+use Rattle.search.proofs.found.Statement.{statement}
+use Rattle.search.proofs.found.Tie as tie
+
+cast-t4 : tie.Need-cast-t4
+cast-t4 c = omega (arith, ones-le 32 (c .args .placed) (omega arith))
+
+returns : tie.Need-returns
+returns c = search needs
+
+pub found-spec : {M : Type 1} → statement M
+found-spec = tie.close (tie.spec cast-t4 returns)

@@ -1,0 +1,150 @@
+// Reads a stream of search calls, single ones and those of walks, and prints a line for each.
+use console::Input;
+use search::Outcome;
+use search::Reply;
+
+// A call from the start that it is given, and one from the walk's own.
+const SEARCH: u8 = b'S';
+
+const WALK: u8 = b'W';
+
+// What a part of the stream did; a call says how long the walk's start is after it.
+enum Effect {
+    End,
+    Lent(usize),
+    Called(usize),
+}
+
+fn visited(n: u64) {
+    console::number(n);
+    console::print(b" visited");
+}
+
+fn prefix(n: u64, len: usize) {
+    visited(n);
+    console::print(b", length ");
+    console::number(len as u64);
+}
+
+fn outcome(o: Outcome) {
+    match o {
+        Outcome::Found { len, visited: n } => {
+            console::print(b"found, ");
+            prefix(n, len);
+        }
+        Outcome::NoneLeft { visited: n } => {
+            console::print(b"none left, ");
+            visited(n);
+        }
+        Outcome::Spent { len, visited: n } => {
+            console::print(b"spent, ");
+            prefix(n, len);
+        }
+    }
+}
+
+fn line(k: u64, reply: Reply, answer: &[u8]) {
+    calls::begin(k);
+    match reply {
+        Reply::Refused(r) => calls::refused(r),
+        Reply::Answered(o) => outcome(o),
+    }
+    calls::end(answer);
+}
+
+fn search(k: u64, block: &[u8], start: &[u8], answer: &mut [u8]) -> Reply {
+    let allowance = calls::allowance();
+    let reply = bench::search(block, start, answer, allowance);
+    line(k, reply, answer);
+    reply
+}
+
+fn single(k: u64, block: &[u8]) {
+    let mut start = [0u8; calls::LIST];
+    let n = calls::list(&mut start);
+    let mut answer = [calls::PREFILL; calls::LIST];
+    let size = calls::length();
+    search(k, block, calls::front(&start, n), &mut answer[..size]);
+}
+
+fn copy(from: &[u8], n: usize, to: &mut [u8]) {
+    let mut i: usize = 0;
+    while i < n && i < from.len() && i < to.len() {
+        to[i] = from[i];
+        i += 1;
+    }
+}
+
+// The next call of the walk. Makes its next start: what was written, or the start again. Answers that one's length.
+fn advance(k: u64, block: &[u8], start: &mut [u8], len: usize, answer: &mut [u8]) -> usize {
+    match search(k, block, calls::front(start, len), answer) {
+        Reply::Refused(_) => len,
+        Reply::Answered(o) => match o {
+            Outcome::NoneLeft { visited: _ } => len,
+            Outcome::Found { len: n, visited: _ } => {
+                copy(answer, n, start);
+                n
+            }
+            Outcome::Spent { len: n, visited: _ } => {
+                copy(answer, n, start);
+                n
+            }
+        },
+    }
+}
+
+fn walk(k: u64, block: &[u8], start: &mut [u8], len: usize) -> usize {
+    let mut answer = [calls::PREFILL; calls::LIST];
+    let size = calls::length();
+    advance(k, block, start, len, &mut answer[..size])
+}
+
+fn call(tag: u8, k: u64, block: &mut [u8], size: usize, start: &mut [u8], len: usize) -> Effect {
+    if tag == calls::LEND {
+        return Effect::Lent(calls::block(block));
+    }
+    let bytes = calls::front(block, size);
+    if tag == SEARCH {
+        single(k, bytes);
+        return Effect::Called(len);
+    }
+    if tag == WALK {
+        return Effect::Called(walk(k, bytes, start, len));
+    }
+    Effect::End
+}
+
+fn turn(k: u64, block: &mut [u8], size: usize, start: &mut [u8], len: usize) -> Effect {
+    match console::byte() {
+        Input::Byte(tag) => call(tag, k, block, size, start, len),
+        Input::End => Effect::End,
+    }
+}
+
+// The bound makes the loop end for the proof: nothing says that input does.
+fn walks(block: &mut [u8], start: &mut [u8]) {
+    let mut size: usize = 0;
+    let mut len: usize = 0;
+    let mut k: u64 = 0;
+    let mut turns: u64 = 0;
+    while turns < u64::MAX {
+        match turn(k, block, size, start, len) {
+            Effect::End => return,
+            Effect::Lent(n) => {
+                size = n;
+                len = 0;
+            }
+            Effect::Called(n) => {
+                len = n;
+                k += 1;
+            }
+        }
+        turns += 1;
+    }
+}
+
+fn main() {
+    let mut block = [0u8; calls::BLOCK];
+    let mut start = [0u8; calls::LIST];
+    walks(&mut block, &mut start);
+}
