@@ -1,0 +1,84 @@
+-- The reply to a search call fits a word: it visits at most the allowance, and a clean prefix has at most the memory events.
+use Prim.Native.Nat.{ℕ, zero, suc, _+_, _^_, _≤_, _<_}
+use mathlib.Core.Path.{_≡_, refl, sym, subst, _∙_}
+use mathlib.Core.Bool.{Bool, true, false, not}
+use mathlib.Core.List.{List, [], _∷_, cons-ne-nil, List·Memᴰ·head, List·Memᴰ·tail}
+use native.Mathlib.Omega.{arith}
+use lib.ListN.{length}
+use borrow.Author.Tests.{ltb-false, not-false}
+use Rattle.lists.specs.Ascending.{less}
+use Rattle.lists.proofs.ListLaws.{_∈_}
+use Rattle.lists.proofs.MemberLaws.{keep-only}
+use Rattle.table.specs.declared.Table.{Table}
+use Rattle.table.specs.Events.{memoryEvents, memoryCount}
+use Rattle.decode.specs.Decoded.{decoded}
+use Rattle.refusals.specs.Lines.{Refused, accepted, byLine, byRecord, firstLine}
+use Rattle.refusals.proofs.LineLaws.{whole-off}
+use Rattle.refusals.proofs.PassedLaws.{passed-both}
+use Rattle.block.specs.Reading.{readingLines, readRefusal}
+use Rattle.prefixes.specs.Listed.{after}
+use Rattle.prefixes.specs.Answer.{Answer, found, answer, pick}
+use Rattle.prefixes.specs.Statements.{seek}
+use Rattle.prefixes.proofs.AnswerLaws.{seek-answer}
+use Rattle.prefixes.proofs.ListedLaws.{listed-only}
+use Rattle.model.specs.Witness.{witness}
+use Rattle.model.specs.Prefixes.{clean, cleanPrefixes, search}
+use Rattle.model.proofs.PrefixLaws.{clean-listed}
+use Rattle.candidate.specs.CandidateLines.{startWrong}
+use Rattle.search.specs.Running.{Small}
+use Rattle.search.specs.Replies.{maxAllowance, startLines, answeredUnless}
+use Rattle.search.proofs.CallLaws.{count-small}
+use Rattle.bench.specs.Search.{searchLines, searchRefusal, searchReply}
+use Rattle.bench.proofs.EntryLaws.{small-read}
+use Rattle.capi.specs.Fits.{AnswerFits, ReplyFits}
+
+-- along any list of short prefixes, from a short start
+seek-fits : (goal : List ℕ → Bool) (l : List (List ℕ)) (s : List ℕ) (b n : ℕ) → length s < 256 → ((p : List ℕ) → p ∈ l → length p < 256) →
+    n + b < 2 ^ 32 → AnswerFits (seek goal l s b n)
+unfolding seek
+seek-fits goal [] s b n h k r = omega arith
+seek-fits goal (p ∷ l) s zero n h k r = (h, omega arith)
+seek-fits goal (p ∷ l) s (suc b) n h k r =
+    go (goal p) (seek-fits goal l p b (suc n) short (λ q m. k q (List·Memᴰ·tail m)) (omega arith))
+  where
+    short : length p < 256
+    short = k p (List·Memᴰ·head refl)
+
+    go : (g : Bool) → AnswerFits (seek goal l p b (suc n)) → AnswerFits (pick g (found p (suc n)) (seek goal l p b (suc n)))
+    go true f = (short, omega arith)
+    go false f = f
+
+module _ (t : Table) (small : Small t) where
+  -- a listed prefix has at most the memory events
+  listed-short : (p : List ℕ) → p ∈ cleanPrefixes t → length p < 256
+  unfolding cleanPrefixes
+  listed-short p m =
+      omega (arith, listed-only (clean t) (memoryEvents t) (memoryCount t) p m .2, count-small small refl refl)
+
+  -- so has a clean one
+  clean-short : (p : List ℕ) → clean t p ≡ true → length p < 256
+  clean-short [] h = omega arith
+  clean-short (x ∷ p) h = listed-short (x ∷ p) (clean-listed t (x ∷ p) .1 (cons-ne-nil x p, h))
+
+  -- the answer from a clean start
+  search-fits : (s : List ℕ) (b : ℕ) → clean t s ≡ true → b ≤ maxAllowance → AnswerFits (search t s b)
+  unfolding search
+  search-fits s b h k =
+      subst AnswerFits (sym (seek-answer (witness t) (after s (cleanPrefixes t)) s b))
+      (seek-fits (witness t) (after s (cleanPrefixes t)) s b 0 (clean-short s h)
+      (λ p m. listed-short p (keep-only (less s) (cleanPrefixes t) p m .0)) (omega arith))
+
+-- the reply of any bytes
+pub reply-fits : (s start out : List ℕ) (b : ℕ) → ReplyFits (searchReply s start out b)
+unfolding searchReply searchRefusal searchLines readRefusal startLines startWrong
+reply-fits s start out b = go (searchRefusal s start out b) refl
+  where
+    go : (r : Refused) → searchRefusal s start out b ≡ r → ReplyFits (answeredUnless r (search (decoded s) start b))
+    go accepted h =
+        let both = passed-both (decoded s .count) (readingLines s) (startLines (decoded s) start out b) h in
+        let room = whole-off _ _ _ _ (both .1) in
+        let rest = whole-off _ _ _ _ (room .1) in
+        let few = whole-off _ _ _ _ (rest .1) in
+        search-fits (decoded s) (small-read s (both .0)) start b (not-false _ (room .0)) (ltb-false _ _ (few .0))
+    go (byLine n) h = tt
+    go (byRecord n k) h = tt

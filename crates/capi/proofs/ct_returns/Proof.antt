@@ -1,0 +1,18 @@
+use borrow.Author.Needs.{needs}
+use Rattle.capi.proofs.ct_returns.Statement.{statement}
+use Rattle.capi.proofs.ct_returns.Tie as tie
+
+returns-requires : tie.Need-returns-requires
+returns-requires c κs = search needs
+
+refusal-word-requires : tie.Need-refusal-word-requires
+refusal-word-requires c κs = search needs
+
+same-length : tie.Need-same-length
+same-length c = search needs
+
+returns : tie.Need-returns
+returns c = (cc, c .before .before .before .returns .ensures .1)
+
+pub ct-returns-spec : {M : Type 1} → statement M
+ct-returns-spec = tie.close (tie.spec returns-requires refusal-word-requires same-length returns)

@@ -1,0 +1,48 @@
+use Rattle.capi.specs.Words.{refusalWord}
+use Rattle.refusals.specs.Refusals.{refusalOf}
+use Rattle.refusals.specs.declared.Refusal.{Refusal}
+use mathlib.Core.Path.{ap}
+use borrow.Author.Needs.{needs}
+use Rattle.capi.proofs.refusal_word.Statement.{statement}
+use Rattle.capi.proofs.refusal_word.Tie as tie
+
+enum-told : tie.Need-enum-told
+enum-told c = search needs
+
+word-requires : tie.Need-word-requires
+word-requires c κs = search needs
+
+enum-known-refusal : tie.Need-enum-known-refusal
+enum-known-refusal c = search needs
+
+word-requires-2 : tie.Need-word-requires-2
+word-requires-2 c κs = search needs
+
+enum-known-refusal-2 : tie.Need-enum-known-refusal-2
+enum-known-refusal-2 c = search needs
+
+word-requires-3 : tie.Need-word-requires-3
+word-requires-3 c κs = search needs
+
+returns : tie.Need-returns
+returns c = cc (ap (λ (r : Refusal). refusalWord (refusalOf r)) (c .before .enum-told .given .1))
+
+returns-2 : tie.Need-returns-2
+returns-2 c = cc (ap (λ (r : Refusal). refusalWord (refusalOf r)) (c .before .before .refusal .given .1))
+
+returns-3 : tie.Need-returns-3
+returns-3 c = cc (ap (λ (r : Refusal). refusalWord (refusalOf r)) (c .before .before .refusal2 .given .1))
+
+pub refusal-word-spec : {M : Type 1} → statement M
+refusal-word-spec =
+    tie.close
+    (tie.spec
+    enum-told
+    word-requires
+    enum-known-refusal
+    word-requires-2
+    enum-known-refusal-2
+    word-requires-3
+    returns
+    returns-2
+    returns-3)

@@ -1,0 +1,41 @@
+use Rattle.capi.specs.Fits.{ReplyFits}
+use Rattle.capi.specs.Words.{replyWord}
+use Rattle.search.specs.Replies.{replyOf}
+use Rattle.search.specs.declared.Reply.{Reply}
+use mathlib.Core.Path.{ap, subst}
+use borrow.Author.Needs.{needs}
+use Rattle.capi.proofs.reply_word.Statement.{statement}
+use Rattle.capi.proofs.reply_word.Tie as tie
+
+enum-known-reply : tie.Need-enum-known-reply
+enum-known-reply c = search needs
+
+refusal-word-requires : tie.Need-refusal-word-requires
+refusal-word-requires c κs = search needs
+
+enum-known-reply-2 : tie.Need-enum-known-reply-2
+enum-known-reply-2 c = search needs
+
+outcome-word-requires : tie.Need-outcome-word-requires
+outcome-word-requires c κs =
+    let start = c .before .before .before .before in
+    subst (λ (r : Reply). ReplyFits (replyOf r (start .args .out .now))) (c .before .reply2 .given .1) (start .pre)
+
+returns : tie.Need-returns
+returns c = search needs
+
+returns-2 : tie.Need-returns-2
+returns-2 c =
+    let start = c .before .before .before .before .before in
+    cc (ap (λ (r : Reply). replyWord (replyOf r (start .args .out .now))) (c .before .before .reply2 .given .1))
+
+pub reply-word-spec : {M : Type 1} → statement M
+reply-word-spec =
+    tie.close
+    (tie.spec
+    enum-known-reply
+    refusal-word-requires
+    enum-known-reply-2
+    outcome-word-requires
+    returns
+    returns-2)

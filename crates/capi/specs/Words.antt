@@ -1,0 +1,44 @@
+-- An answer as one word of 64 bits, for C: byte 0 is its case, bytes 1 to 3 its values, bytes 4 to 7 the visited number.
+use Prim.Native.Nat.{ℕ, _+_, _*_}
+use lib.ListN.{length}
+use Rattle.refusals.specs.Lines.{Refused, accepted, byLine, byRecord}
+use Rattle.model.specs.Verdict.{Verdict, allowed, brokenPpo, brokenLoadValue, brokenAtomicity, brokenValueRead, brokenFinalValue}
+use Rattle.verdict.specs.Judged.{Judged, declined, judged}
+use Rattle.prefixes.specs.Answer.{Answer, found, noneLeft, spent}
+use Rattle.prefixes.specs.Walk.{Reply, refused, answered}
+
+unfoldable pub word : (kind a b d visited : ℕ) → ℕ
+word kind a b d visited = kind + 256 * a + 65536 * b + 16777216 * d + 4294967296 * visited
+
+-- in the place of a record where none is named
+abbrev pub noRecord : ℕ
+noRecord = 255
+
+-- 0: good; 1: refused, with the number and the record
+abbrev pub refusalWord : Refused → ℕ
+refusalWord accepted = word 0 0 0 0 0
+refusalWord (byLine n) = word 1 n noRecord 0 0
+refusalWord (byRecord n k) = word 1 n k 0 0
+
+-- 0: allowed; 2 to 6: the axiom with its place
+abbrev pub verdictWord : Verdict → ℕ
+verdictWord allowed = word 0 0 0 0 0
+verdictWord (brokenPpo a b rule) = word 2 a b rule 0
+verdictWord (brokenLoadValue reader) = word 3 reader 0 0 0
+verdictWord (brokenAtomicity lr writer) = word 4 lr writer 0 0
+verdictWord (brokenValueRead reader) = word 5 reader 0 0 0
+verdictWord (brokenFinalValue location) = word 6 location 0 0 0
+
+abbrev pub judgedWord : Judged → ℕ
+judgedWord (declined r) = refusalWord r
+judgedWord (judged v) = verdictWord v
+
+-- 7: found; 8: none left; 9: spent; with the number of entries that were written
+abbrev pub answerWord : Answer → ℕ
+answerWord (found p v) = word 7 (length p) 0 0 v
+answerWord (noneLeft v) = word 8 0 0 0 v
+answerWord (spent p v) = word 9 (length p) 0 0 v
+
+abbrev pub replyWord : Reply Refused → ℕ
+replyWord (refused r) = refusalWord r
+replyWord (answered a) = answerWord a

@@ -1,0 +1,112 @@
+/*
+ * Cogthunder: a proved bench for the RISC-V memory model (RVWMO).
+ *
+ * Link with target/staticlib/libcapi.a, which `rt staticlib capi` makes.
+ *
+ * Every function takes any bytes: what it cannot work on it refuses, and it alters no byte but those of `out`. A
+ * refusal alters none at all. A pointer must be valid for the length that follows it, and must not be null, also where
+ * that length is 0. `out` must not overlap another argument. No function keeps a pointer, allocates, or has a state.
+ *
+ * A test is a block of 512 bytes. Events are numbered from 0 in the order of the table, locations from 0.
+ *
+ * The word
+ * --------
+ * All functions but ct_blocks answer by one word. Byte 0, the lowest, is the case; bytes that the table doesn't name are 0.
+ *
+ *   case                   byte 1              byte 2                      byte 3        bytes 4 to 7
+ *   0  good                -                   -                           -             -
+ *   1  refused             number of refusal   record, or 255 if no        -             -
+ *                                              record is named
+ *   2  preserved order     event a             event b                     lowest rule   -
+ *   3  load value          reader              -                           -             -
+ *   4  atomicity           LR                  writer                      -             -
+ *   5  value read          reader              -                           -             -
+ *   6  final value         location            -                           -             -
+ *   7  found               length written      -                           -             visited
+ *   8  none left           -                   -                           -             visited
+ *   9  spent               length written      -                           -             visited
+ */
+#ifndef COGTHUNDER_H
+#define COGTHUNDER_H
+
+#include <stddef.h>
+#include <stdint.h>
+
+#ifdef __cplusplus
+extern "C" {
+#endif
+
+/* The length of a block. */
+#define CT_BLOCK 512u
+
+/* A test has at most this many events: the entries of a returned list, and of an order. */
+#define CT_EVENTS 16u
+
+/* The largest allowance of a search. */
+#define CT_ALLOWANCE UINT64_C(1000000000)
+
+/* In a returned list: the entry of an event that doesn't read, and of one that returns the initial value. */
+#define CT_NOTHING 254u
+#define CT_INITIALLY 255u
+
+/* In the place of a record where a refusal names none. */
+#define CT_NO_RECORD 255u
+
+/* Byte 0 of a word. */
+enum ct_case {
+    CT_GOOD = 0,
+    CT_REFUSED = 1,
+    CT_PRESERVED_ORDER = 2,
+    CT_LOAD_VALUE = 3,
+    CT_ATOMICITY = 4,
+    CT_VALUE_READ = 5,
+    CT_FINAL_VALUE = 6,
+    CT_FOUND = 7,
+    CT_NONE_LEFT = 8,
+    CT_SPENT = 9
+};
+
+/* The parts of a word. */
+#define CT_CASE(word) ((unsigned)((word) & 0xff))
+#define CT_BYTE1(word) ((unsigned)((word) >> 8 & 0xff))
+#define CT_BYTE2(word) ((unsigned)((word) >> 16 & 0xff))
+#define CT_BYTE3(word) ((unsigned)((word) >> 24 & 0xff))
+#define CT_VISITED(word) ((uint32_t)((word) >> 32))
+
+/* Reads a block. Case 0: the test is good. Case 1: refusal 1 to 11. */
+uint64_t ct_read(const uint8_t *block, size_t block_len);
+
+/*
+ * The verdict for a candidate. `returned` has an entry for each event: the writer that a reader returns from,
+ * CT_INITIALLY, or CT_NOTHING for an event that doesn't read. `order` is the global memory order: each memory event
+ * once. Case 0: allowed. Case 1: refusal 1 to 14. Cases 2 to 6: the first axiom or stated value that is broken.
+ */
+uint64_t ct_verdict(const uint8_t *block, size_t block_len, const uint8_t *returned, size_t returned_len,
+                    const uint8_t *order, size_t order_len);
+
+/*
+ * Writes the returned list that an order determines to the front of `out`, which has room for an entry for each event
+ * (CT_EVENTS is enough for any test); bytes past it stay. Case 0: written. Case 1: refusal 1 to 13 or 16.
+ */
+uint64_t ct_returns(const uint8_t *block, size_t block_len, const uint8_t *order, size_t order_len, uint8_t *out,
+                    size_t out_len);
+
+/*
+ * Searches the clean prefixes greater than `start`, ascending, for the next witness, and visits at most `allowance` of
+ * them. `start` is empty or a clean prefix: after found or spent, what that call wrote, at the length it answered.
+ * `out` has room for each memory event (CT_EVENTS is enough for any test); bytes past what is written stay.
+ *
+ * Case 7, found: the order of the witness is written. Case 8, none left: nothing is written. Case 9, spent: the last
+ * prefix visited is written. Case 1: refusal 1 to 11 or 15 to 17.
+ */
+uint64_t ct_search(const uint8_t *block, size_t block_len, const uint8_t *start, size_t start_len, uint8_t *out,
+                   size_t out_len, uint64_t allowance);
+
+/* How many blocks a suite has; a last part block counts. Block k begins at byte CT_BLOCK * k. */
+uint64_t ct_blocks(const uint8_t *suite, size_t suite_len);
+
+#ifdef __cplusplus
+}
+#endif
+
+#endif

@@ -1,0 +1,35 @@
+//! The proved search, by its signature for C.
+
+use crate::plain::Answer;
+
+extern "C" {
+    fn ct_search(
+        block: *const u8,
+        block_len: usize,
+        start: *const u8,
+        start_len: usize,
+        out: *mut u8,
+        out_len: usize,
+        allowance: u64,
+    ) -> u64;
+}
+
+const FOUND: u8 = 7;
+const NONE_LEFT: u8 = 8;
+const SPENT: u8 = 9;
+
+/// The whole call on a block, from the empty start; none if it is refused.
+pub fn search(block: &[u8], out: &mut [u8], allowance: u64) -> Option<Answer> {
+    let start: [u8; 0] = [];
+    // Each pointer is that of a slice, beside its length.
+    let word =
+        unsafe { ct_search(block.as_ptr(), block.len(), start.as_ptr(), 0, out.as_mut_ptr(), out.len(), allowance) };
+    let [case, len, ..] = word.to_le_bytes();
+    let (len, visited) = (usize::from(len), word >> 32);
+    match case {
+        FOUND => Some(Answer::Found { len, visited }),
+        NONE_LEFT => Some(Answer::NoneLeft { visited }),
+        SPENT => Some(Answer::Spent { len, visited }),
+        _ => None,
+    }
+}
