@@ -4,6 +4,7 @@ mod plain;
 mod proved;
 mod rules;
 mod shapes;
+mod suite;
 mod table;
 
 use plain::Answer;
@@ -82,8 +83,8 @@ fn time_shapes() {
 fn time_suite() {
     let kinds: Vec<Vec<u8>> = shapes::small().iter().map(|t| t.encode()).collect();
     kinds.iter().for_each(|block| drop(agreed(block)));
-    let suite: Vec<u8> = kinds.iter().cycle().take(SUITE_BLOCKS).flatten().copied().collect();
-    let (p, q) = least(|| suite.chunks(BLOCK));
+    let blocks: Vec<u8> = kinds.iter().cycle().take(SUITE_BLOCKS).flatten().copied().collect();
+    let (p, q) = least(|| blocks.chunks(BLOCK));
     let milliseconds = |ns: f64| ns / 1e6;
     println!(
         "\n{SUITE_BLOCKS} small blocks, ms: proved {:.1}, Rust {:.1}, ratio {:.2}",
@@ -91,9 +92,16 @@ fn time_suite() {
         milliseconds(q),
         p / q
     );
+    if let Some(path) = std::env::args().nth(1) {
+        suite::time(&path, &blocks, SUITE_BLOCKS);
+    }
 }
 
+/// With the path of the proved suite program it times both of them too.
 fn main() {
+    if std::env::args().nth(1).as_deref() == Some(suite::COMMAND) {
+        return suite::run();
+    }
     time_shapes();
     time_suite();
 }
