@@ -24,19 +24,25 @@ const RECORD_END: usize = 14;
 
 const RECORD_ZEROS: usize = 2;
 
-// One of the n bytes from `at` isn't zero.
+// A byte as a number that has room for a sum of them.
+fn wide(b: u8) -> u32
+    ensures { λ r. ⌜ (r ≡ b) × (r ≤ 255) ⌝ }
+{
+    b as u32
+}
+
+// One of the n bytes from `at` isn't zero. They are added up and not tested one by one: wide registers add many at a time.
 fn some_not_zero(s: &[u8], at: usize, n: usize) -> bool
     requires { ⌜ (at + n ≤ length (now s)) × (length (now s) ≡ blockLength) ⌝ }
     ensures { λ r. ⌜ r ≡ someNotZero (now (s .entry)) at n ⌝ }
 {
+    let mut sum: u32 = 0;
     let mut i: usize = 0;
     while i < n {
-        if s[at + i] != 0 {
-            return true;
-        }
+        sum += wide(s[at + i]);
         i += 1;
     }
-    false
+    sum != 0
 }
 
 fn record_not_zero(s: &[u8], k: usize) -> bool

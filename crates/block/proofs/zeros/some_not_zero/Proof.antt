@@ -1,33 +1,36 @@
-use borrow.Author.Tests.{eq-eqb, ne-eqb}
-use mathlib.Core.Path.{ap}
+use Prim.Native.Nat.{ℕ, _*_, _-_, _≤_}
+use mathlib.Core.Path.{_≡_, refl, sym, ap, _∙_}
 use mathlib.Core.Bool.{not}
-use Rattle.block.specs.ZeroBytes.{notZero}
-use Prim.Native.Nat.{_-_}
-use mathlib.Core.Path.{sym}
 use native.Mathlib.Omega.{arith}
-use Rattle.lists.proofs.ScanLaws.{Scanned, scan-start, scan-more, some-hit, some-end}
+use lib.Dec.{eqb}
+use Rattle.lists.specs.Below.{some}
+use Rattle.block.specs.ZeroBytes.{notZero}
+use Rattle.block.proofs.ZeroLaws.{sum-more}
 use borrow.Author.Needs.{needs}
 use Rattle.block.proofs.zeros.some_not_zero.Statement.{statement}
 use Rattle.block.proofs.zeros.some_not_zero.Tie as tie
 
 abbrev Inv-loop : tie.InvT-loop
-Inv-loop s at n i₀ i = Scanned (notZero s at) n i
+Inv-loop s at n sum₀ i₀ sum i = (i ≤ n) × (sum ≤ 255 * i) × (not (eqb sum 0) ≡ some i (notZero s at))
 
 abbrev μ-loop : tie.MeasureT-loop
-μ-loop s at n i₀ i = n - i
+μ-loop s at n sum₀ i₀ sum i = n - i
 
 loop-holds : tie.Need-loop-holds Inv-loop μ-loop
-loop-holds c = scan-start _ _
+unfolding Rattle.lists.specs.Below.firstFrom
+loop-holds c = (omega arith, omega arith, refl)
 
-add-if1 : tie.Need-add-if1 Inv-loop μ-loop
-add-if1 c = search needs
+add-wide : tie.Need-add-wide Inv-loop μ-loop
+add-wide c = search needs
 
-shared-slice-read-if1 : tie.Need-shared-slice-read-if1 Inv-loop μ-loop
-shared-slice-read-if1 c = search needs
+shared-slice-read-wide : tie.Need-shared-slice-read-wide Inv-loop μ-loop
+shared-slice-read-wide c = search needs
 
-returns : tie.Need-returns Inv-loop μ-loop
-unfolding notZero
-returns c = sym (some-hit _ _ _ (c .before .before .before .loop .inv) (omega arith) (ap not (ne-eqb _ _ (c .if1 .taken))))
+wide-requires : tie.Need-wide-requires Inv-loop μ-loop
+wide-requires c κs = search needs
+
+add-sum : tie.Need-add-sum Inv-loop μ-loop
+add-sum c = omega (arith, c .wide .ensures .1, c .before .before .before .loop .inv .1)
 
 add-i : tie.Need-add-i Inv-loop μ-loop
 add-i c = search needs
@@ -37,10 +40,15 @@ loop-less c = search needs
 
 loop-again : tie.Need-loop-again Inv-loop μ-loop
 unfolding notZero
-loop-again c = scan-more _ _ _ (c .before .before .before .loop .inv) (omega arith) (ap not (eq-eqb _ _ (c .if1 .left)))
+loop-again c =
+    (omega arith, omega (arith, c .wide .ensures .1, c .before .before .before .loop .inv .1),
+    sum-more _ _ (c .before .before .before .loop .sum) (c .wide .result) (c .before .before .before .loop .inv .2) (ap (λ (b : ℕ). not (eqb b 0)) (sym (c .wide .ensures .0))))
 
-returns-2 : tie.Need-returns-2 Inv-loop μ-loop
-returns-2 c = sym (some-end _ _ _ (c .before .loop .inv) (omega arith))
+returns : tie.Need-returns Inv-loop μ-loop
+returns c =
+    let v = c .before .before .before .args in
+    let all : c .before .loop .i ≡ v .n = omega (arith, c .before .loop .inv .0) in
+    c .before .loop .inv .2 ∙ ap (λ (k : ℕ). some k (notZero (v .s .now) (v .at))) all
 
 pub some-not-zero-spec : {M : Type 1} → statement M
 some-not-zero-spec =
@@ -49,10 +57,11 @@ some-not-zero-spec =
     Inv-loop
     μ-loop
     loop-holds
-    add-if1
-    shared-slice-read-if1
-    returns
+    add-wide
+    shared-slice-read-wide
+    wide-requires
+    add-sum
     add-i
     loop-less
     loop-again
-    returns-2)
+    returns)
