@@ -1,5 +1,8 @@
 // Lines 12 to 14: tests of a candidate's order and returned list against the table.
 use edition::EventNo;
+use reads_from::INITIALLY;
+use reads_from::NOTHING;
+use reads_from::returned_from;
 use table::Table;
 ghost use Prim.Native.Nat.{_≤_, _<_};
 ghost use mathlib.Core.Path.{_≡_};
@@ -12,11 +15,6 @@ ghost use Rattle.table.specs.Events.{capacity, reads, memory};
 ghost use Rattle.model.specs.Rules.{nothing, initially};
 ghost use Rattle.model.specs.Witness.{isMemoryEvent};
 ghost use Rattle.candidate.specs.CandidateLines.{writerFor, returnedWrong, orderWrong};
-
-// A returned list's entry for an event that doesn't read, and for the initial write.
-const NOTHING: u8 = 254;
-
-const INITIALLY: u8 = 255;
 
 // 1 if the two are the same.
 fn same(x: u8, y: u8) -> usize
@@ -112,7 +110,7 @@ pub fn returned_wrong(t: Table, rf: &[u8]) -> bool
 {
     let mut e: u8 = 0;
     while e < t.count {
-        if entry_wrong(t, EventNo(e), rules::returned_from(rf, EventNo(e))) {
+        if entry_wrong(t, EventNo(e), returned_from(rf, EventNo(e))) {
             return true;
         }
         e += 1;

@@ -1,4 +1,2 @@
 pub mod MaskLaws
-pub mod FromLaws
 pub mod RuleLaws
-pub mod EventTests

@@ -1,2 +1,1 @@
 pub mod RuleMask
-pub mod Between

@@ -1,9 +1,5 @@
-// The thirteen rules of preserved program order (ppo), one function each, under the manual's headings.
-mod dependencies;
-mod overlap;
-mod pipeline;
-mod synchronization;
-
+// The rules of a pair as one set, and preserved program order (ppo). Each rule is a function of the crate that has the manual's
+// heading for its name: overlap, synchronization, dependencies, pipeline.
 use dependencies::rule9;
 use dependencies::rule10;
 use dependencies::rule11;
@@ -26,18 +22,10 @@ ghost use mathlib.Core.Bool.{_&&_};
 ghost use lib.Dec.{eqb, ltb};
 ghost use lib.ListN.{length};
 ghost use Rattle.table.specs.Events.{capacity, memoryKind};
-ghost use Rattle.model.specs.Rules.{from, rules, ppo, staticPpo};
+ghost use Rattle.model.specs.Rules.{rules, ppo, staticPpo};
 ghost use Rattle.rules.specs.RuleMask.{setMask, lowestIn, inPlaces};
 
 const RULES: usize = 13;
-
-// What event e returned from.
-pub fn returned_from(rf: &[u8], e: EventNo) -> u8
-    requires { ⌜ e .0 < length (now rf) ⌝ }
-    ensures { λ r. ⌜ r ≡ from (now (rf .entry)) (e .0) ⌝ }
-{
-    rf[e.0 as usize]
-}
 
 // Which of the thirteen hold, in their order, where 2, 3 and 12, which look at what was returned, are given.
 fn in_places(

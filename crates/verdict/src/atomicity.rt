@@ -2,7 +2,7 @@
 use super::order::before;
 use super::returns::INITIALLY;
 use edition::EventNo;
-use rules::returned_from;
+use reads_from::returned_from;
 use table::Table;
 ghost use Prim.Native.Nat.{_≤_, _<_};
 ghost use mathlib.Core.Path.{_≡_};

@@ -4,7 +4,7 @@ use super::returns::return_of;
 use super::returns::written_value;
 use edition::EventNo;
 use edition::LocationNo;
-use rules::returned_from;
+use reads_from::returned_from;
 use table::Table;
 ghost use Prim.Native.Nat.{_≤_, _<_};
 ghost use mathlib.Core.Path.{_≡_};

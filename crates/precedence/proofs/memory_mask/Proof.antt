@@ -2,7 +2,7 @@ use mathlib.Core.Path.{sym, _∙_}
 use native.Mathlib.Omega.{arith}
 use borrow.Author.Needs.{needs}
 use Rattle.table.specs.Events.{memory, memoryEvents}
-use Rattle.rules.proofs.EventTests.{ofEvents}
+use Rattle.table.proofs.EventTests.{ofEvents}
 use Rattle.precedence.specs.Precedence.{memoryMask}
 use Rattle.precedence.proofs.LoopLaws.{Gathered, gather-start, gather-take, gather-skip, gather-end}
 use Rattle.precedence.proofs.memory_mask.Statement.{statement}

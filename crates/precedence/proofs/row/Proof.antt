@@ -2,7 +2,7 @@ use mathlib.Core.Path.{sym, _∙_}
 use native.Mathlib.Omega.{arith}
 use borrow.Author.Needs.{needs}
 use Rattle.model.specs.Rules.{mayOrder, staticPpo}
-use Rattle.rules.proofs.EventTests.{ofEvents}
+use Rattle.table.proofs.EventTests.{ofEvents}
 use Rattle.rules.proofs.RuleLaws.{static-left}
 use Rattle.precedence.specs.Precedence.{predecessorMask}
 use Rattle.precedence.proofs.LoopLaws.{Gathered, gather-start, gather-take, gather-skip, gather-end}

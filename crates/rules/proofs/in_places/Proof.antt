@@ -1,6 +1,6 @@
 use Rattle.model.specs.Rules.{rule1, rule5, rule6, rule7, rule9, rule10, rule11}
 use Rattle.rules.proofs.RuleLaws.{held}
-use Rattle.rules.proofs.EventTests.{ofEvents}
+use Rattle.table.proofs.EventTests.{ofEvents}
 use borrow.Author.Needs.{needs}
 use Rattle.rules.proofs.in_places.Statement.{statement}
 use Rattle.rules.proofs.in_places.Tie as tie

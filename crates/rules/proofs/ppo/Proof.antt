@@ -1,7 +1,7 @@
 use mathlib.Core.Path.{sym, _∙_}
 use Rattle.model.specs.Rules.{mayOrder}
 use Rattle.rules.proofs.RuleLaws.{ppo-taken, ppo-left}
-use Rattle.rules.proofs.EventTests.{ofEvents}
+use Rattle.table.proofs.EventTests.{ofEvents}
 use borrow.Author.Needs.{needs}
 use Rattle.rules.proofs.ppo.Statement.{statement}
 use Rattle.rules.proofs.ppo.Tie as tie

@@ -1,6 +1,6 @@
 use Rattle.model.specs.Rules.{rule3}
 use Rattle.rules.proofs.RuleLaws.{all-held}
-use Rattle.rules.proofs.EventTests.{ofEvents}
+use Rattle.table.proofs.EventTests.{ofEvents}
 use borrow.Author.Needs.{needs}
 use Rattle.rules.proofs.rules.Statement.{statement}
 use Rattle.rules.proofs.rules.Tie as tie

@@ -2,7 +2,7 @@ use mathlib.Core.Path.{sym, ap, _∙_}
 use Rattle.model.specs.Rules.{mayOrder}
 use Rattle.rules.specs.RuleMask.{setMask}
 use Rattle.rules.proofs.RuleLaws.{static-taken, static-left}
-use Rattle.rules.proofs.EventTests.{ofEvents}
+use Rattle.table.proofs.EventTests.{ofEvents}
 use borrow.Author.Needs.{needs}
 use Rattle.rules.proofs.static_ppo.Statement.{statement}
 use Rattle.rules.proofs.static_ppo.Tie as tie

@@ -1,4 +1,4 @@
-use Rattle.rules.proofs.EventTests.{ofEvents}
+use Rattle.table.proofs.EventTests.{ofEvents}
 use Rattle.verdict.proofs.AxiomLaws.{intrudes-taken, intrudes-left}
 use borrow.Author.Needs.{needs}
 use Rattle.verdict.proofs.atomicity.intrudes.Statement.{statement}

@@ -1,6 +1,6 @@
 use Rattle.lists.proofs.BoolLaws.{and-taken, and-left}
 use Rattle.model.specs.Axioms.{breaksLoadValue}
-use Rattle.rules.proofs.EventTests.{ofEvents}
+use Rattle.table.proofs.EventTests.{ofEvents}
 use borrow.Author.Needs.{needs}
 use Rattle.verdict.proofs.values.breaks_load_value.Statement.{statement}
 use Rattle.verdict.proofs.values.breaks_load_value.Tie as tie

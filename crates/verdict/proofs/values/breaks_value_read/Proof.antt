@@ -1,6 +1,6 @@
 use Rattle.lists.proofs.BoolLaws.{and-taken, and-left}
 use Rattle.model.specs.Axioms.{breaksValueRead}
-use Rattle.rules.proofs.EventTests.{ofEvents}
+use Rattle.table.proofs.EventTests.{ofEvents}
 use borrow.Author.Needs.{needs}
 use Rattle.verdict.proofs.values.breaks_value_read.Statement.{statement}
 use Rattle.verdict.proofs.values.breaks_value_read.Tie as tie

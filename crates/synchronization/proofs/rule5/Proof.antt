@@ -1,0 +1,15 @@
+use borrow.Author.Needs.{needs}
+use Rattle.synchronization.proofs.rule5.Statement.{statement}
+use Rattle.synchronization.proofs.rule5.Tie as tie
+
+flagged-requires : tie.Need-flagged-requires
+flagged-requires c κs = search needs
+
+flagged-requires-2 : tie.Need-flagged-requires-2
+flagged-requires-2 c κs = search needs
+
+returns : tie.Need-returns
+returns c = cc
+
+pub rule5-spec : {M : Type 1} → statement M
+rule5-spec = tie.close (tie.spec flagged-requires flagged-requires-2 returns)
