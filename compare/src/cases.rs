@@ -3,8 +3,9 @@
 use crate::call::{Call, Entry, Outcome, Reply};
 use crate::comparison::{Comparison, Difference};
 use cogthunder::Answer;
-use oracle::encode::{encode, seal};
+use oracle::encode::encode;
 use oracle::generate::candidates::{choose_outcome, contended_table, other_return, returned_list, with_swap};
+use oracle::generate::damage::damaged;
 use oracle::generate::orders::*;
 use oracle::generate::prng::Prng;
 use oracle::generate::random::{any_table, random_table};
@@ -262,30 +263,6 @@ fn damaged_table(prng: &mut Prng, comparison: &mut Comparison) -> Result<(), Box
     let table = any_shape(prng);
     let block = damaged(prng, &table);
     every_entry(prng, &mut Calls { comparison, block }, &table)
-}
-
-/// Changes one byte, mostly one of the test's records; mostly the check is made right again.
-fn damaged(prng: &mut Prng, table: &Table) -> Vec<u8> {
-    let mut block = encode(table);
-    let record = record_at(prng.below(table.events.len()));
-    let at = match prng.below(12) {
-        0 => prng.below(BLOCK_LENGTH),
-        1 => prng.below(HEADER_ZEROS.end),
-        2 => initial_at(0) + prng.below(VALUE_LENGTH * MAX_LOCATIONS),
-        3 => final_at(0) + prng.below(VALUE_LENGTH * MAX_LOCATIONS),
-        4 => record + field::KIND,
-        5 => record + field::FLAGS,
-        _ => record + prng.below(RECORD_LENGTH),
-    };
-    block[at] = match prng.below(4) {
-        0 => prng.bits() as u8,
-        1 | 2 => prng.below(Kind::ALL.len() + 1) as u8,
-        _ => block[at] ^ 1 << prng.below(8),
-    };
-    if !prng.one_in(10) {
-        seal(&mut block);
-    }
-    block
 }
 
 /// Calls of every entry, with lists of a table that the block may or may not hold.

@@ -3,6 +3,7 @@
 pub mod breaches;
 pub mod candidates;
 pub mod cases;
+pub mod damage;
 pub mod orders;
 pub mod prng;
 pub mod random;
