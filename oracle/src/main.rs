@@ -1,19 +1,6 @@
 //! The reference program of the RVWMO bench. Its commands are listed in the README.
 
-mod candidate;
-mod candidates;
-mod encode;
-mod generate;
-mod layout;
-mod litmus;
-mod readings;
-mod rules;
-mod search;
-mod stream;
-mod suite;
-mod table;
-mod walks;
-
+use oracle::{candidates, generate, readings, stream, suite, walks};
 use std::io::{self, Read, Write};
 use std::process::ExitCode;
 

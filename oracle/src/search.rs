@@ -69,7 +69,9 @@ impl Prefixes {
             if may_follow(prefix, *event, predecessors) {
                 prefix.push(*event);
                 search.meet(prefix)?;
-                self.descend(prefix, search)?;
+                if !search.is_past(prefix) {
+                    self.descend(prefix, search)?;
+                }
                 prefix.pop();
             }
         }
@@ -106,6 +108,12 @@ impl<'a> Search<'a> {
             ControlFlow::Break(answer) => answer,
             ControlFlow::Continue(()) => Answer::NoneLeft { visited: self.visited },
         }
+    }
+
+    /// Whether all extensions of a prefix are smaller than the start too: the prefix is, and
+    /// the start doesn't extend it.
+    fn is_past(&self, prefix: &[usize]) -> bool {
+        prefix < self.start && !self.start.starts_with(prefix)
     }
 
     /// Counts a clean prefix if it is in the list. "Prefixes are compared entry by entry, and

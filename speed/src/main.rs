@@ -2,17 +2,19 @@
 
 mod plain;
 mod proved;
+mod reading;
 mod rules;
 mod shapes;
 mod suite;
 mod table;
 
 use plain::Answer;
+use reading::Refusal;
 use std::hint::black_box;
 use std::time::Instant;
 use table::{BLOCK, EVENTS};
 
-type Search = fn(&[u8], &mut [u8], u64) -> Option<Answer>;
+type Search = fn(&[u8], &mut [u8], u64) -> Result<Answer, Refusal>;
 
 const ALLOWANCE: u64 = 1_000_000;
 const RUNS: usize = 20;
@@ -54,7 +56,7 @@ fn time<'a>(search: Search, blocks: impl Iterator<Item = &'a [u8]>) -> f64 {
     let mut out = [0; EVENTS];
     let begin = Instant::now();
     for block in blocks {
-        black_box(search(black_box(block), &mut out, ALLOWANCE));
+        let _ = black_box(search(black_box(block), &mut out, ALLOWANCE));
     }
     begin.elapsed().as_nanos() as f64
 }
@@ -82,7 +84,9 @@ fn time_shapes() {
 
 fn time_suite() {
     let kinds: Vec<Vec<u8>> = shapes::small().iter().map(|t| t.encode()).collect();
-    kinds.iter().for_each(|block| drop(agreed(block)));
+    for block in &kinds {
+        agreed(block);
+    }
     let blocks: Vec<u8> = kinds.iter().cycle().take(SUITE_BLOCKS).flatten().copied().collect();
     let (p, q) = least(|| blocks.chunks(BLOCK));
     let milliseconds = |ns: f64| ns / 1e6;

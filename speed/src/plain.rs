@@ -1,5 +1,6 @@
 //! The search in plain Rust, by the same algorithm as the proved one.
 
+use crate::reading::{read, Refusal};
 use crate::rules::{by_returns, is_atomic, paired, steady, INITIALLY, NOTHING};
 use crate::table::{Table, EVENTS, LOCATIONS};
 
@@ -195,7 +196,7 @@ fn search_table(t: &Table, out: &mut [u8], allowance: u64) -> Answer {
     Answer::NoneLeft { visited }
 }
 
-/// The whole call on a block, from the empty start; none if the block isn't good.
-pub fn search(block: &[u8], out: &mut [u8], allowance: u64) -> Option<Answer> {
-    Table::decode(block).map(|t| search_table(&t, out, allowance))
+/// The whole call on a block, from the empty start.
+pub fn search(block: &[u8], out: &mut [u8], allowance: u64) -> Result<Answer, Refusal> {
+    read(block).map(|t| search_table(&t, out, allowance))
 }

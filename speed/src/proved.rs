@@ -1,6 +1,7 @@
 //! The proved search, by its signature for C.
 
 use crate::plain::Answer;
+use crate::reading::Refusal;
 
 extern "C" {
     fn ct_search(
@@ -18,18 +19,21 @@ const FOUND: u8 = 7;
 const NONE_LEFT: u8 = 8;
 const SPENT: u8 = 9;
 
-/// The whole call on a block, from the empty start; none if it is refused.
-pub fn search(block: &[u8], out: &mut [u8], allowance: u64) -> Option<Answer> {
+/// In the place of a record where a refusal names none.
+const NO_RECORD: u8 = 255;
+
+/// The whole call on a block, from the empty start.
+pub fn search(block: &[u8], out: &mut [u8], allowance: u64) -> Result<Answer, Refusal> {
     let start: [u8; 0] = [];
     // Each pointer is that of a slice, beside its length.
     let word =
         unsafe { ct_search(block.as_ptr(), block.len(), start.as_ptr(), 0, out.as_mut_ptr(), out.len(), allowance) };
-    let [case, len, ..] = word.to_le_bytes();
-    let (len, visited) = (usize::from(len), word >> 32);
+    let [case, first, second, ..] = word.to_le_bytes();
+    let (len, visited) = (usize::from(first), word >> 32);
     match case {
-        FOUND => Some(Answer::Found { len, visited }),
-        NONE_LEFT => Some(Answer::NoneLeft { visited }),
-        SPENT => Some(Answer::Spent { len, visited }),
-        _ => None,
+        FOUND => Ok(Answer::Found { len, visited }),
+        NONE_LEFT => Ok(Answer::NoneLeft { visited }),
+        SPENT => Ok(Answer::Spent { len, visited }),
+        _ => Err(Refusal { line: first, record: Some(second).filter(|&k| k != NO_RECORD).map(usize::from) }),
     }
 }

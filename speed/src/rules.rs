@@ -2,8 +2,8 @@
 
 use crate::table::{Event, Table, AMO, FENCE, FENCE_TSO, LR, SC};
 
-const ACQUIRE: u8 = 0b0011;
-const RELEASE: u8 = 0b1100;
+pub const ACQUIRE: u8 = 0b0011;
+pub const RELEASE: u8 = 0b1100;
 const RCSC: u8 = 0b1010;
 const PR: u8 = 1;
 const PW: u8 = 2;

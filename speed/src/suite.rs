@@ -16,13 +16,13 @@ const RUNS: usize = 5;
 fn line(k: usize, block: &[u8]) -> String {
     let mut out = [0; EVENTS];
     match plain::search(block, &mut out, ALLOWANCE) {
-        Some(Answer::Found { len, visited }) => {
+        Ok(Answer::Found { len, visited }) => {
             let order: Vec<String> = out[..len].iter().map(u8::to_string).collect();
             format!("block {k}: allowed, {visited} visited, order {}", order.join(" "))
         }
-        Some(Answer::NoneLeft { visited }) => format!("block {k}: forbidden, {visited} visited"),
-        Some(Answer::Spent { visited, .. }) => format!("block {k}: undecided, {visited} visited"),
-        None => format!("block {k}: refused"),
+        Ok(Answer::NoneLeft { visited }) => format!("block {k}: forbidden, {visited} visited"),
+        Ok(Answer::Spent { visited, .. }) => format!("block {k}: undecided, {visited} visited"),
+        Err(refusal) => format!("block {k}: refused {}", refusal.line),
     }
 }
 
@@ -56,7 +56,8 @@ fn least(program: &mut Command, file: &mut File) -> (f64, Vec<u8>) {
 /// Times the proved suite program, at `path`, beside this one.
 pub fn time(path: &str, blocks: &[u8], count: usize) {
     let name = std::env::temp_dir().join(format!("suite-{}", std::process::id()));
-    let mut file = File::options().create(true).truncate(true).read(true).write(true).open(&name).expect("a file for the blocks");
+    let mut file =
+        File::options().create(true).truncate(true).read(true).write(true).open(&name).expect("a file for the blocks");
     file.write_all(blocks).expect("room for the blocks");
     let (p, proved) = least(&mut Command::new(path), &mut file);
     let own = std::env::current_exe().expect("this program has a path");

@@ -1,21 +1,22 @@
-//! A litmus test, its encoder and a reader of good blocks.
+//! A litmus test, its encoder, and where a block holds what.
 
 pub const EVENTS: usize = 16;
 pub const LOCATIONS: usize = 8;
+pub const HARTS: usize = 4;
 pub const BLOCK: usize = 512;
 
-const MARKER: [u8; 4] = [0x52, 0x56, 0x54, 0x31];
-const EDITION: u8 = 1;
-const EDITION_AT: usize = 4;
-const HARTS_AT: usize = 5;
-const LOCATIONS_AT: usize = 6;
-const EVENTS_AT: usize = 7;
-const STATED_AT: usize = 8;
-const INITIAL_AT: usize = 16;
-const RECORDS_AT: usize = 32;
-const RECORD: usize = 16;
-const FINALS_AT: usize = 288;
-const CHECK_AT: usize = 508;
+pub const MARKER: [u8; 4] = [0x52, 0x56, 0x54, 0x31];
+pub const EDITION: u8 = 1;
+pub const EDITION_AT: usize = 4;
+pub const HARTS_AT: usize = 5;
+pub const LOCATIONS_AT: usize = 6;
+pub const EVENTS_AT: usize = 7;
+pub const STATED_AT: usize = 8;
+pub const INITIAL_AT: usize = 16;
+pub const RECORDS_AT: usize = 32;
+pub const RECORD: usize = 16;
+pub const FINALS_AT: usize = 288;
+pub const CHECK_AT: usize = 508;
 
 pub const LOAD: u8 = 1;
 pub const STORE: u8 = 2;
@@ -62,15 +63,11 @@ impl Event {
     }
 }
 
-fn number(bytes: &[u8], at: usize) -> u16 {
-    u16::from_le_bytes([bytes[at], bytes[at + 1]])
-}
-
 fn put(bytes: &mut [u8], at: usize, value: u16) {
     bytes[at..at + 2].copy_from_slice(&value.to_le_bytes());
 }
 
-fn check(block: &[u8]) -> u32 {
+pub fn check(block: &[u8]) -> u32 {
     (1..).zip(&block[..CHECK_AT]).map(|(weight, &byte)| weight * u32::from(byte)).sum()
 }
 
@@ -78,21 +75,6 @@ fn encode_event(e: &Event, record: &mut [u8]) {
     record[..4].copy_from_slice(&[e.kind, e.hart, e.location, e.flags]);
     for (k, value) in [e.addr, e.data, e.ctrl, e.read, e.written].into_iter().enumerate() {
         put(record, 4 + 2 * k, value);
-    }
-}
-
-fn decode_event(record: &[u8]) -> Event {
-    let value = |k: usize| number(record, 4 + 2 * k);
-    Event {
-        kind: record[0],
-        hart: record[1],
-        location: record[2],
-        flags: record[3],
-        addr: value(0),
-        data: value(1),
-        ctrl: value(2),
-        read: value(3),
-        written: value(4),
     }
 }
 
@@ -117,32 +99,5 @@ impl Table {
         let sum = check(&block);
         block[CHECK_AT..].copy_from_slice(&sum.to_le_bytes());
         block
-    }
-
-    /// Of a block that the bench accepts. Of the refusals only 1 to 5 are tested here.
-    pub fn decode(block: &[u8]) -> Option<Table> {
-        let good = block.len() == BLOCK
-            && block[CHECK_AT..] == check(block).to_le_bytes()
-            && block[..MARKER.len()] == MARKER
-            && block[EDITION_AT] == EDITION
-            && usize::from(block[EVENTS_AT]) <= EVENTS
-            && usize::from(block[LOCATIONS_AT]) <= LOCATIONS;
-        if !good {
-            return None;
-        }
-        let mut t = Table {
-            count: block[EVENTS_AT].into(),
-            locations: block[LOCATIONS_AT].into(),
-            stated: block[STATED_AT],
-            ..Table::default()
-        };
-        for x in 0..LOCATIONS {
-            t.initial[x] = number(block, INITIAL_AT + 2 * x);
-            t.finals[x] = number(block, FINALS_AT + 2 * x);
-        }
-        for (e, record) in t.events[..t.count].iter_mut().zip(block[RECORDS_AT..].chunks(RECORD)) {
-            *e = decode_event(record);
-        }
-        Some(t)
     }
 }

@@ -85,7 +85,7 @@ pub fn list_candidates() -> String {
 }
 
 /// The returned list that an order determines.
-fn returned_list(table: &Table, order: &[usize]) -> Vec<u8> {
+pub fn returned_list(table: &Table, order: &[usize]) -> Vec<u8> {
     determined_returns(table, order).into_iter().map(encode_entry).collect()
 }
 
@@ -291,7 +291,7 @@ fn buffer_lengths(calls: &mut Calls) {
 }
 
 /// A table whose harts meet at few locations.
-fn contended_table(prng: &mut Prng) -> Table {
+pub fn contended_table(prng: &mut Prng) -> Table {
     let locations = if prng.one_in(6) { MAX_LOCATIONS } else { 1 + prng.below(3) };
     let harts = 1 + prng.below(MAX_HARTS);
     let events = 2 + prng.below(MAX_EVENTS - 1);
@@ -337,7 +337,7 @@ fn against_each_rule(calls: &mut Calls, prng: &mut Prng, table: &Table) {
 }
 
 /// By turns leaves the random values, states those of an order, or all of them but one.
-fn choose_outcome(prng: &mut Prng, table: &mut Table, order: &[usize]) {
+pub fn choose_outcome(prng: &mut Prng, table: &mut Table, order: &[usize]) {
     let choice = prng.below(4);
     if choice > 0 {
         state_outcome(table, order);
@@ -349,14 +349,14 @@ fn choose_outcome(prng: &mut Prng, table: &mut Table, order: &[usize]) {
 }
 
 /// An order with two entries swapped.
-fn with_swap(prng: &mut Prng, order: &[usize]) -> Vec<usize> {
+pub fn with_swap(prng: &mut Prng, order: &[usize]) -> Vec<usize> {
     let mut swapped = order.to_vec();
     swapped.swap(prng.below(order.len()), prng.below(order.len()));
     swapped
 }
 
 /// A returned list with a reader's entry changed to another that line 14 lets pass.
-fn other_return(prng: &mut Prng, table: &Table, returned: &[u8]) -> Vec<u8> {
+pub fn other_return(prng: &mut Prng, table: &Table, returned: &[u8]) -> Vec<u8> {
     let mut changed = returned.to_vec();
     let readers: Vec<usize> =
         (0..table.events.len()).filter(|&e| table.events[e].reads()).collect();
@@ -377,7 +377,7 @@ fn random_damage(calls: &mut Calls, prng: &mut Prng, table: &Table) {
     let mut order = bytes(&order);
     let list = if prng.one_in(2) { &mut order } else { &mut returned };
     let at = prng.below(list.len());
-    list[at] = prng.next() as u8;
+    list[at] = prng.bits() as u8;
     calls.verdict("random-damage", &returned, &order);
     calls.returned("random-damage", &order, prng.below(2 * MAX_EVENTS));
 }

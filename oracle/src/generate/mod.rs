@@ -1,10 +1,11 @@
-//! Deterministic generators of the stored streams.
+//! Deterministic generators: of the stored streams, and of what they are made of.
 
-mod breaches;
+pub mod breaches;
 pub mod candidates;
-mod cases;
-mod orders;
-mod prng;
-mod random;
+pub mod cases;
+pub mod damage;
+pub mod orders;
+pub mod prng;
+pub mod random;
 pub mod readings;
 pub mod walks;

@@ -325,14 +325,14 @@ fn damaged_table(prng: &mut Prng, number: usize) -> Vec<u8> {
     let table = any_table(prng);
     let end = if number.is_multiple_of(4) { CHECK_AT } else { TAIL_ZEROS.start };
     let at = prng.below(end);
-    let value = prng.next() as u8;
+    let value = prng.bits() as u8;
     changed(&table, &[(at, value)])
 }
 
 /// Random bytes with the right marker; by turns nothing else, the check, the edition, and
 /// the counts are right too.
-fn random_block(prng: &mut Prng, number: usize) -> Vec<u8> {
-    let mut block: Vec<u8> = (0..BLOCK_LENGTH).map(|_| prng.next() as u8).collect();
+pub fn random_block(prng: &mut Prng, number: usize) -> Vec<u8> {
+    let mut block: Vec<u8> = (0..BLOCK_LENGTH).map(|_| prng.bits() as u8).collect();
     block[..MARKER.len()].copy_from_slice(&MARKER);
     let right = number % 4;
     if right >= 2 {

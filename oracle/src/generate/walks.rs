@@ -156,7 +156,7 @@ fn walk_at_random(calls: &mut Calls, prng: &mut Prng, table: &Table) {
 }
 
 /// Buffers just long enough, longer, too short.
-fn any_buffer_length(prng: &mut Prng, memory_events: usize) -> usize {
+pub fn any_buffer_length(prng: &mut Prng, memory_events: usize) -> usize {
     let longer = memory_events + prng.below(10);
     *prng.pick(&[memory_events, memory_events, longer, longer, memory_events - 1, 0, 255])
 }

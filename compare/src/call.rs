@@ -1,0 +1,279 @@
+//! One call, and its outcome by the library and by the independent program.
+
+use crate::lent::Room;
+use cogthunder::{Answer, Axiom, Refusal, Verdict, Witnesses};
+use oracle::search::MAX_ALLOWANCE;
+use std::fmt;
+
+/// A block, and which entry is called with it.
+#[derive(Clone, PartialEq, Eq, Debug)]
+pub struct Call {
+    pub block: Vec<u8>,
+    pub entry: Entry,
+}
+
+/// An entry with the rest of its arguments; `out` is what the buffer holds before the call.
+#[derive(Clone, PartialEq, Eq, Debug)]
+pub enum Entry {
+    Read,
+    Verdict {
+        returned: Vec<u8>,
+        order: Vec<u8>,
+    },
+    Returns {
+        order: Vec<u8>,
+        out: Vec<u8>,
+    },
+    Search {
+        start: Vec<u8>,
+        out: Vec<u8>,
+        allowance: u64,
+    },
+    Blocks,
+    /// All witnesses after a start, by the iterator: it is resumed after some search calls with the given allowance.
+    Witnesses {
+        start: Vec<u8>,
+        allowance: u64,
+        steps: usize,
+    },
+}
+
+#[derive(Clone, PartialEq, Eq, Debug)]
+pub enum Reply {
+    Good,
+    Refused { number: u8, record: Option<u8> },
+    Broken(Axiom),
+    Searched(Answer),
+    Blocks(u64),
+    Witnesses { orders: Vec<Vec<u8>>, visited: u64 },
+}
+
+/// The reply, the buffer afterwards, and what was altered though it must not be.
+#[derive(Clone, PartialEq, Eq, Debug)]
+pub struct Outcome {
+    pub reply: Reply,
+    pub out: Vec<u8>,
+    pub altered: Vec<&'static str>,
+}
+
+/// What answers calls.
+pub trait Bench {
+    fn outcome(&mut self, call: &Call) -> Outcome;
+}
+
+impl From<Refusal> for Reply {
+    fn from(refusal: Refusal) -> Reply {
+        Reply::Refused { number: refusal.number, record: refusal.record }
+    }
+}
+
+impl From<oracle::table::Refusal> for Reply {
+    fn from(refusal: oracle::table::Refusal) -> Reply {
+        Reply::Refused { number: refusal.line as u8, record: refusal.record.map(|record| record as u8) }
+    }
+}
+
+/// The proved library through its Rust package. Each slice is lent from a room of its own.
+pub struct Library {
+    block: Room,
+    first: Room,
+    second: Room,
+}
+
+impl Library {
+    pub fn new(room: fn() -> Room) -> Library {
+        Library { block: room(), first: room(), second: room() }
+    }
+
+    fn reply(&mut self, call: &Call) -> Reply {
+        let block = self.block.lend(&call.block);
+        match &call.entry {
+            Entry::Read => cogthunder::read(block).map_or_else(Reply::from, |()| Reply::Good),
+            Entry::Verdict { returned, order } => {
+                match cogthunder::verdict(block, self.first.lend(returned), self.second.lend(order)) {
+                    Err(refusal) => refusal.into(),
+                    Ok(Verdict::Allowed) => Reply::Good,
+                    Ok(Verdict::Broken(axiom)) => Reply::Broken(axiom),
+                }
+            }
+            Entry::Returns { order, out } => cogthunder::returns(block, self.first.lend(order), self.second.lend(out))
+                .map_or_else(Reply::from, |()| Reply::Good),
+            Entry::Search { start, out, allowance } => {
+                cogthunder::search(block, self.first.lend(start), self.second.lend(out), *allowance)
+                    .map_or_else(Reply::from, Reply::Searched)
+            }
+            Entry::Blocks => Reply::Blocks(cogthunder::blocks(block)),
+            Entry::Witnesses { start, allowance, steps } => {
+                walk(block, self.first.lend(start), *allowance, *steps).unwrap_or_else(Reply::from)
+            }
+        }
+    }
+
+    fn altered(&mut self, call: &Call) -> Vec<&'static str> {
+        let (first, second) = call.entry.inputs();
+        let rooms = [
+            ("the block", &mut self.block, Some(&call.block[..])),
+            ("the list after it", &mut self.first, first),
+            ("the second list or the buffer", &mut self.second, second),
+        ];
+        let mut altered = Vec::new();
+        for (name, room, input) in rooms {
+            if room.is_trespassed() || input.is_some_and(|before| room.now() != before) {
+                altered.push(name);
+            }
+        }
+        altered
+    }
+}
+
+impl Entry {
+    /// The lists that are lent beside the block, and must stay as they are.
+    fn inputs(&self) -> (Option<&[u8]>, Option<&[u8]>) {
+        match self {
+            Entry::Read | Entry::Blocks => (None, None),
+            Entry::Verdict { returned, order } => (Some(returned), Some(order)),
+            Entry::Returns { order: list, .. }
+            | Entry::Search { start: list, .. }
+            | Entry::Witnesses { start: list, .. } => (Some(list), None),
+        }
+    }
+
+    /// The buffer that is written to.
+    fn out(&self) -> Option<&[u8]> {
+        match self {
+            Entry::Returns { out, .. } | Entry::Search { out, .. } => Some(out),
+            _ => None,
+        }
+    }
+}
+
+impl Bench for Library {
+    fn outcome(&mut self, call: &Call) -> Outcome {
+        let reply = self.reply(call);
+        let altered = self.altered(call);
+        let out = call.entry.out().map_or_else(Vec::new, |_| self.second.now().to_vec());
+        Outcome { reply, out, altered }
+    }
+}
+
+/// Walks by the iterator: after some search calls it is thrown away, and another one resumed where it stood.
+fn walk(block: &[u8], start: &[u8], allowance: u64, steps: usize) -> Result<Reply, Refusal> {
+    let mut orders = Vec::new();
+    let mut walk = Witnesses::resume(block, start)?.allowance(allowance);
+    for _ in 0..steps {
+        match walk.step() {
+            Answer::Found { .. } => orders.push(walk.start().to_vec()),
+            Answer::Spent { .. } => {}
+            Answer::NoneLeft { .. } => return Ok(Reply::Witnesses { orders, visited: walk.visited() }),
+        }
+    }
+    let mut rest = Witnesses::resume(block, walk.start())?.allowance(allowance);
+    orders.extend(&mut rest);
+    Ok(Reply::Witnesses { orders, visited: walk.visited() + rest.visited() })
+}
+
+/// The independent program.
+pub struct Reference;
+
+impl Bench for Reference {
+    fn outcome(&mut self, call: &Call) -> Outcome {
+        let mut out = call.entry.out().unwrap_or_default().to_vec();
+        let reply = reference_reply(call, &mut out);
+        Outcome { reply, out, altered: Vec::new() }
+    }
+}
+
+fn reference_reply(call: &Call, buffer: &mut [u8]) -> Reply {
+    let block = &call.block;
+    match &call.entry {
+        Entry::Read => oracle::table::read(block).map_or_else(Reply::from, |_| Reply::Good),
+        Entry::Verdict { returned, order } => match oracle::candidate::verdict(block, returned, order) {
+            Err(refusal) => refusal.into(),
+            Ok(None) => Reply::Good,
+            Ok(Some(axiom)) => Reply::Broken(same_axiom(axiom)),
+        },
+        Entry::Returns { order, .. } => {
+            oracle::candidate::write_returned(block, order, buffer).map_or_else(Reply::from, |()| Reply::Good)
+        }
+        Entry::Search { start, allowance, .. } => oracle::search::search(block, start, buffer, *allowance)
+            .map_or_else(Reply::from, |answer| Reply::Searched(same_answer(&answer))),
+        Entry::Blocks => Reply::Blocks(block.chunks(oracle::layout::BLOCK_LENGTH).len() as u64),
+        Entry::Witnesses { start, .. } => reference_walk(block, start).unwrap_or_else(Reply::from),
+    }
+}
+
+fn same_axiom(axiom: oracle::rules::Axiom) -> Axiom {
+    use oracle::rules::Axiom as Other;
+    match axiom {
+        Other::PreservedOrder { a, b, rule } => Axiom::PreservedOrder { a: a as u8, b: b as u8, rule: rule as u8 },
+        Other::LoadValue { reader } => Axiom::LoadValue { reader: reader as u8 },
+        Other::Atomicity { lr, writer } => Axiom::Atomicity { lr: lr as u8, writer: writer as u8 },
+        Other::ValueRead { reader } => Axiom::ValueRead { reader: reader as u8 },
+        Other::FinalValue { location } => Axiom::FinalValue { location: location as u8 },
+    }
+}
+
+fn same_answer(answer: &oracle::search::Answer) -> Answer {
+    use oracle::search::Answer as Other;
+    match answer {
+        Other::Found { visited, order } => Answer::Found { len: order.len(), visited: *visited },
+        Other::NoneLeft { visited } => Answer::NoneLeft { visited: *visited },
+        Other::Spent { visited, prefix } => Answer::Spent { len: prefix.len(), visited: *visited },
+    }
+}
+
+/// From witness to witness, to the end.
+fn reference_walk(block: &[u8], start: &[u8]) -> Result<Reply, oracle::table::Refusal> {
+    use oracle::search::Answer as Other;
+    let mut start = start.to_vec();
+    let mut orders = Vec::new();
+    let mut total = 0;
+    let mut buffer = [0; oracle::layout::MAX_EVENTS];
+    loop {
+        match oracle::search::search(block, &start, &mut buffer, MAX_ALLOWANCE)? {
+            Other::Found { visited, order } => {
+                start = buffer[..order.len()].to_vec();
+                orders.push(start.clone());
+                total += visited;
+            }
+            Other::NoneLeft { visited } => return Ok(Reply::Witnesses { orders, visited: total + visited }),
+            Other::Spent { .. } => panic!("the tables of walks have fewer prefixes than the largest allowance"),
+        }
+    }
+}
+
+impl Entry {
+    pub fn name(&self) -> &'static str {
+        match self {
+            Entry::Read => "read",
+            Entry::Verdict { .. } => "verdict",
+            Entry::Returns { .. } => "returns",
+            Entry::Search { .. } => "search",
+            Entry::Blocks => "blocks",
+            Entry::Witnesses { .. } => "witnesses",
+        }
+    }
+}
+
+/// Bytes in lines of 32, two digits each.
+fn hex(bytes: &[u8]) -> String {
+    let line = |line: &[u8]| line.iter().map(|byte| format!("{byte:02x}")).collect::<String>() + "\n";
+    bytes.chunks(32).map(line).collect()
+}
+
+impl fmt::Display for Call {
+    fn fmt(&self, f: &mut fmt::Formatter) -> fmt::Result {
+        writeln!(f, "{:?}", self.entry)?;
+        write!(f, "block, {} bytes:\n{}", self.block.len(), hex(&self.block))
+    }
+}
+
+impl fmt::Display for Outcome {
+    fn fmt(&self, f: &mut fmt::Formatter) -> fmt::Result {
+        write!(f, "{:?}, buffer {:?}", self.reply, self.out)?;
+        if !self.altered.is_empty() {
+            write!(f, ", ALTERED: {}", self.altered.join(", "))?;
+        }
+        Ok(())
+    }
+}

@@ -1,0 +1,326 @@
+//! Random calls, in rounds. A round has one table or one string of bytes, and makes some calls with it.
+
+use crate::call::{Call, Entry, Outcome, Reply};
+use crate::comparison::{Comparison, Difference};
+use cogthunder::Answer;
+use oracle::encode::encode;
+use oracle::generate::candidates::{choose_outcome, contended_table, other_return, returned_list, with_swap};
+use oracle::generate::damage::damaged;
+use oracle::generate::orders::*;
+use oracle::generate::prng::Prng;
+use oracle::generate::random::{any_table, random_table};
+use oracle::generate::readings::random_block;
+use oracle::generate::walks::any_buffer_length;
+use oracle::layout::*;
+use oracle::litmus;
+use oracle::rules::RULE_COUNT;
+use oracle::search::MAX_ALLOWANCE;
+use oracle::table::*;
+
+type Round = fn(&mut Prng, &mut Comparison) -> Result<(), Box<Difference>>;
+
+/// As often as they shall come.
+const ROUNDS: [Round; 16] = [
+    candidates,
+    candidates,
+    candidates,
+    large_searches,
+    large_searches,
+    small_walk,
+    small_walk,
+    small_walk,
+    witnesses,
+    damaged_table,
+    damaged_table,
+    damaged_table,
+    damaged_table,
+    fences_only,
+    random_bytes,
+    suite,
+];
+
+/// With so few memory events a table's list of prefixes is short enough to be walked to the end, whatever the table.
+const FEW_EVENTS: usize = 6;
+/// No walk makes more calls than this.
+const MOST_CALLS: usize = 30;
+/// Calls of a round that has no end of its own.
+const SOME_CALLS: usize = 6;
+const LONGEST_SUITE: usize = 5000;
+const LONGEST_BYTES: usize = 1100;
+const LONGEST_LIST: usize = 300;
+
+pub fn round(prng: &mut Prng, comparison: &mut Comparison) -> Result<(), Box<Difference>> {
+    prng.pick(&ROUNDS)(prng, comparison)
+}
+
+/// The calls with one block.
+struct Calls<'a> {
+    comparison: &'a mut Comparison,
+    block: Vec<u8>,
+}
+
+impl Calls<'_> {
+    fn call(&mut self, entry: Entry) -> Result<Outcome, Box<Difference>> {
+        self.comparison.call(Call { block: self.block.clone(), entry })
+    }
+
+    fn search(
+        &mut self,
+        prng: &mut Prng,
+        start: Vec<u8>,
+        room: usize,
+        allowance: u64,
+    ) -> Result<Outcome, Box<Difference>> {
+        let out = some_bytes(prng, room);
+        self.call(Entry::Search { start, out, allowance })
+    }
+}
+
+fn some_bytes(prng: &mut Prng, length: usize) -> Vec<u8> {
+    (0..length).map(|_| prng.bits() as u8).collect()
+}
+
+/// Candidates of a table of any shape.
+fn candidates(prng: &mut Prng, comparison: &mut Comparison) -> Result<(), Box<Difference>> {
+    let mut table = any_shape(prng);
+    let lawful = lawful_order(prng, &table);
+    if let Some(order) = &lawful {
+        choose_outcome(prng, &mut table, order);
+    }
+    let mut calls = Calls { comparison, block: encode(&table) };
+    calls.call(Entry::Read)?;
+    for _ in 0..SOME_CALLS {
+        let order = match &lawful {
+            Some(order) if prng.one_in(3) => order.clone(),
+            Some(order) if prng.one_in(4) => with_swap(prng, order),
+            _ => any_order(prng, &table),
+        };
+        candidate(prng, &mut calls, &table, &order)?;
+    }
+    for order in (1..=RULE_COUNT).filter_map(|rule| extension_against(prng, &table, rule)).collect::<Vec<_>>() {
+        candidate(prng, &mut calls, &table, &order)?;
+    }
+    Ok(())
+}
+
+/// Tables of any size, tables whose harts meet at few locations, smaller ones whose harts meet at one, and tables with
+/// many annotations.
+fn any_shape(prng: &mut Prng) -> Table {
+    match prng.below(4) {
+        0 => any_table(prng),
+        1 => contended_table(prng),
+        2 => {
+            let (harts, events) = (2 + prng.below(MAX_HARTS - 1), 2 + prng.below(FEW_EVENTS));
+            random_table(prng, harts, 1, events)
+        }
+        _ => annotated_table(prng),
+    }
+}
+
+/// Half of the readers have an acquire, and half of the others that write a release.
+fn annotated_table(prng: &mut Prng) -> Table {
+    let mut table = any_table(prng);
+    for event in table.events.iter_mut().filter(|event| event.is_memory()) {
+        let choices =
+            if event.reads() { [0, 0, ACQUIRE_RCPC, ACQUIRE_RCSC] } else { [0, 0, RELEASE_RCPC, RELEASE_RCSC] };
+        event.flags = *prng.pick(&choices);
+    }
+    table
+}
+
+fn any_order(prng: &mut Prng, table: &Table) -> Vec<usize> {
+    if prng.one_in(4) {
+        permutation(prng, table)
+    } else {
+        linear_extension(prng, table)
+    }
+}
+
+/// Both entries on an order of a table: lists that are right, or nearly so.
+fn candidate(prng: &mut Prng, calls: &mut Calls, table: &Table, order: &[usize]) -> Result<(), Box<Difference>> {
+    let mut returned = returned_list(table, order);
+    let mut order = bytes(order);
+    match prng.below(8) {
+        0 | 1 => returned = other_return(prng, table, &returned),
+        2 => returned = nearly(prng, &returned),
+        3 => order = nearly(prng, &order),
+        _ => {}
+    }
+    let room = any_buffer_length(prng, table.events.len());
+    let out = some_bytes(prng, room);
+    calls.call(Entry::Verdict { returned, order: order.clone() })?;
+    calls.call(Entry::Returns { order, out })?;
+    Ok(())
+}
+
+/// A list changed in one place: another event or any byte, one entry less, or one more.
+fn nearly(prng: &mut Prng, list: &[u8]) -> Vec<u8> {
+    let mut list = list.to_vec();
+    let at = prng.below(list.len() + 1);
+    let entry = if prng.one_in(2) { prng.below(MAX_EVENTS + 1) as u8 } else { prng.bits() as u8 };
+    match prng.below(4) {
+        0 if at < list.len() => drop(list.remove(at)),
+        1 => list.insert(at, entry),
+        _ if at < list.len() => list[at] = entry,
+        _ => {}
+    }
+    list
+}
+
+/// A table of some size that often has witnesses.
+fn table_with_outcome(prng: &mut Prng, events: usize) -> Table {
+    let harts = 1 + prng.below(MAX_HARTS);
+    let locations = 1 + prng.below(3);
+    let mut table = random_table(prng, harts, locations, events);
+    if !prng.one_in(3) {
+        let order = lawful_order(prng, &table).unwrap_or_else(|| linear_extension(prng, &table));
+        state_outcome(&mut table, &order);
+    }
+    table
+}
+
+/// A walk over a small table, with any allowances and buffers; mostly to its end.
+fn small_walk(prng: &mut Prng, comparison: &mut Comparison) -> Result<(), Box<Difference>> {
+    let events = 1 + prng.below(FEW_EVENTS);
+    let table = table_with_outcome(prng, events);
+    walk(prng, &mut Calls { comparison, block: encode(&table) }, &table)
+}
+
+fn walk(prng: &mut Prng, calls: &mut Calls, table: &Table) -> Result<(), Box<Difference>> {
+    let memory_events = table.memory_events().len();
+    let largest = *prng.pick(&[2, 10, 40, 200]);
+    let mut start = Vec::new();
+    for _ in 0..1 + prng.below(MOST_CALLS) {
+        let room = if prng.one_in(4) { any_buffer_length(prng, memory_events) } else { memory_events };
+        let allowance = any_allowance(prng, memory_events, largest);
+        let outcome = calls.search(prng, start.clone(), room, allowance)?;
+        match outcome.reply {
+            Reply::Searched(Answer::Found { len, .. } | Answer::Spent { len, .. }) => {
+                start = outcome.out[..len].to_vec()
+            }
+            // Now and then a walk goes on after its end.
+            Reply::Searched(Answer::NoneLeft { .. }) if !prng.one_in(4) => return Ok(()),
+            _ => {}
+        }
+    }
+    Ok(())
+}
+
+/// Mostly under a bound; as large as can be only if the table is small.
+fn any_allowance(prng: &mut Prng, memory_events: usize, bound: usize) -> u64 {
+    let small = prng.below(bound) as u64;
+    let largest = if memory_events <= FEW_EVENTS { MAX_ALLOWANCE } else { small };
+    *prng.pick(&[0, 1, small, small, small, small, largest, largest, largest, MAX_ALLOWANCE + 1, u64::MAX])
+}
+
+/// Searches of a table of any size, from clean prefixes and from others.
+fn large_searches(prng: &mut Prng, comparison: &mut Comparison) -> Result<(), Box<Difference>> {
+    let events = 1 + prng.below(MAX_EVENTS);
+    let table = table_with_outcome(prng, events);
+    let mut calls = Calls { comparison, block: encode(&table) };
+    for _ in 0..SOME_CALLS {
+        single_search(prng, &mut calls, &table)?;
+    }
+    walk(prng, &mut calls, &table)
+}
+
+fn single_search(prng: &mut Prng, calls: &mut Calls, table: &Table) -> Result<(), Box<Difference>> {
+    let memory_events = table.memory_events().len();
+    let mut start = bytes(&any_order(prng, table));
+    start.truncate(prng.below(start.len() + 1));
+    if prng.one_in(4) {
+        start = nearly(prng, &start);
+    }
+    if prng.one_in(20) {
+        let length = prng.below(LONGEST_LIST);
+        start = some_bytes(prng, length);
+    }
+    let room = any_buffer_length(prng, memory_events);
+    let allowance = any_allowance(prng, memory_events, 100);
+    calls.search(prng, start, room, allowance)?;
+    Ok(())
+}
+
+/// All witnesses of a small table by the iterator, from the beginning or from any start.
+fn witnesses(prng: &mut Prng, comparison: &mut Comparison) -> Result<(), Box<Difference>> {
+    let events = 1 + prng.below(FEW_EVENTS);
+    let table = table_with_outcome(prng, events);
+    let mut calls = Calls { comparison, block: encode(&table) };
+    for _ in 0..SOME_CALLS {
+        let mut start = Vec::new();
+        if prng.one_in(2) {
+            start = bytes(&any_order(prng, &table));
+            start.truncate(prng.below(start.len() + 1));
+        }
+        let allowance = *prng.pick(&[0, 1, 2, 7, 50, MAX_ALLOWANCE, u64::MAX]);
+        calls.call(Entry::Witnesses { start, allowance, steps: prng.below(SOME_CALLS) })?;
+    }
+    Ok(())
+}
+
+/// A table whose block is damaged in one place; lists are those of the whole table.
+fn damaged_table(prng: &mut Prng, comparison: &mut Comparison) -> Result<(), Box<Difference>> {
+    let table = any_shape(prng);
+    let block = damaged(prng, &table);
+    every_entry(prng, &mut Calls { comparison, block }, &table)
+}
+
+/// Calls of every entry, with lists of a table that the block may or may not hold.
+fn every_entry(prng: &mut Prng, calls: &mut Calls, table: &Table) -> Result<(), Box<Difference>> {
+    calls.call(Entry::Read)?;
+    let order = any_order(prng, table);
+    candidate(prng, calls, table, &order)?;
+    let memory_events = table.memory_events().len();
+    let room = any_buffer_length(prng, memory_events);
+    let start = bytes(&order[..prng.below(order.len() + 1)]);
+    // The block may hold another table than this one, with more prefixes.
+    let allowance = any_allowance(prng, MAX_EVENTS, 100);
+    calls.search(prng, start.clone(), room, allowance)?;
+    Ok(())
+}
+
+/// A table without a memory event.
+fn fences_only(prng: &mut Prng, comparison: &mut Comparison) -> Result<(), Box<Difference>> {
+    let events = (0..1 + prng.below(MAX_EVENTS)).map(|_| any_fence(prng)).collect();
+    let block = encode(&litmus::table(events));
+    every_entry(prng, &mut Calls { comparison, block }, &litmus::c1())
+}
+
+fn any_fence(prng: &mut Prng) -> Event {
+    let hart = prng.below(MAX_HARTS);
+    if prng.one_in(3) {
+        return litmus::fence_tso(hart);
+    }
+    litmus::fence(hart, prng.below(usize::from(ALL_FLAGS) + 1) as u8)
+}
+
+/// Random bytes: of any length, in the form of a block, or a table's block cut short or made longer.
+fn random_bytes(prng: &mut Prng, comparison: &mut Comparison) -> Result<(), Box<Difference>> {
+    let table = contended_table(prng);
+    let any_length = prng.below(LONGEST_BYTES);
+    let length = *prng.pick(&[0, 1, BLOCK_LENGTH - 1, BLOCK_LENGTH + 1, 2 * BLOCK_LENGTH, any_length]);
+    let block = match prng.below(3) {
+        0 => some_bytes(prng, length),
+        1 => {
+            let form = prng.below(4);
+            random_block(prng, form)
+        }
+        _ => {
+            let mut block = encode(&table).repeat(3);
+            block.truncate(length);
+            block
+        }
+    };
+    every_entry(prng, &mut Calls { comparison, block }, &table)
+}
+
+/// How many blocks a suite of any length has.
+fn suite(prng: &mut Prng, comparison: &mut Comparison) -> Result<(), Box<Difference>> {
+    let length = prng.below(LONGEST_SUITE);
+    let edge = BLOCK_LENGTH * prng.below(LONGEST_SUITE / BLOCK_LENGTH);
+    for length in [length, edge, edge + 1, (edge + BLOCK_LENGTH) - 1] {
+        let mut calls = Calls { comparison: &mut *comparison, block: some_bytes(prng, length) };
+        calls.call(Entry::Blocks)?;
+    }
+    Ok(())
+}

@@ -1,0 +1,146 @@
+//! Makes calls of both benches, and stops at the first difference.
+
+use crate::call::{Bench, Call, Outcome};
+use crate::shrink::shrink;
+use crate::tally::Tally;
+use std::fmt;
+
+pub struct Comparison {
+    reference: Box<dyn Bench>,
+    library: Box<dyn Bench>,
+    pub tally: Tally,
+}
+
+/// The smallest call found on which the two differ, and what each gives.
+#[derive(Debug)]
+pub struct Difference {
+    pub call: Call,
+    pub reference: Outcome,
+    pub library: Outcome,
+}
+
+impl Comparison {
+    pub fn new(reference: impl Bench + 'static, library: impl Bench + 'static) -> Comparison {
+        Comparison { reference: Box::new(reference), library: Box::new(library), tally: Tally::default() }
+    }
+
+    /// What both give.
+    pub fn call(&mut self, call: Call) -> Result<Outcome, Box<Difference>> {
+        let reference = self.reference.outcome(&call);
+        let library = self.library.outcome(&call);
+        self.tally.count(&call, &reference);
+        if reference == library {
+            return Ok(reference);
+        }
+        let call = shrink(call, |call| self.reference.outcome(call) != self.library.outcome(call));
+        let reference = self.reference.outcome(&call);
+        let library = self.library.outcome(&call);
+        Err(Box::new(Difference { call, reference, library }))
+    }
+}
+
+impl fmt::Display for Difference {
+    fn fmt(&self, f: &mut fmt::Formatter) -> fmt::Result {
+        write!(f, "{}independent program: {}\nlibrary: {}", self.call, self.reference, self.library)
+    }
+}
+
+#[cfg(test)]
+mod tests {
+    use super::*;
+    use crate::call::{Entry, Library, Reference, Reply};
+    use crate::cases::round;
+    use crate::lent::Room;
+    use cogthunder::{Answer, Axiom};
+    use oracle::encode::encode;
+    use oracle::generate::prng::Prng;
+    use oracle::layout::EVENTS_AT;
+    use oracle::litmus;
+
+    /// Calls enough to meet the faults below.
+    const CALLS: u64 = 20_000;
+
+    /// The independent program with a fault.
+    struct Faulty(fn(&Call, &mut Outcome));
+
+    impl Bench for Faulty {
+        fn outcome(&mut self, call: &Call) -> Outcome {
+            let mut outcome = Reference.outcome(call);
+            self.0(call, &mut outcome);
+            outcome
+        }
+    }
+
+    /// The first difference that random calls meet.
+    fn difference(fault: fn(&Call, &mut Outcome)) -> Difference {
+        let mut comparison = Comparison::new(Reference, Faulty(fault));
+        let mut prng = Prng::new(1);
+        loop {
+            assert!(comparison.tally.calls < CALLS, "the fault is met");
+            if let Err(difference) = round(&mut prng, &mut comparison) {
+                return *difference;
+            }
+        }
+    }
+
+    #[test]
+    fn a_forgotten_fence_is_shown_by_two_events_and_the_fence() {
+        let found = difference(|_, outcome| {
+            if matches!(outcome.reply, Reply::Broken(Axiom::PreservedOrder { rule: 4, .. })) {
+                outcome.reply = Reply::Good;
+            }
+        });
+        assert_eq!(found.call.block[EVENTS_AT], 3);
+        assert_eq!(found.reference.reply, Reply::Broken(Axiom::PreservedOrder { a: 0, b: 2, rule: 4 }));
+    }
+
+    #[test]
+    fn a_wrong_count_is_shown_by_one_event() {
+        let found = difference(|_, outcome| {
+            if let Reply::Searched(Answer::Spent { visited, .. }) = &mut outcome.reply {
+                *visited += 1;
+            }
+        });
+        assert_eq!(found.call.block[EVENTS_AT], 1);
+        assert_eq!(found.reference.reply, Reply::Searched(Answer::Spent { len: 0, visited: 0 }));
+    }
+
+    #[test]
+    fn a_byte_written_past_the_answer_is_seen() {
+        let found = difference(|call, outcome| {
+            if let (Entry::Returns { .. }, Reply::Good, Some(last)) =
+                (&call.entry, &outcome.reply, outcome.out.last_mut())
+            {
+                *last ^= 1;
+            }
+        });
+        assert_eq!(found.call.block[EVENTS_AT], 1);
+    }
+
+    #[test]
+    fn an_altered_argument_is_a_difference() {
+        let found = difference(|call, outcome| {
+            if call.entry == Entry::Blocks {
+                outcome.altered.push("the block");
+            }
+        });
+        assert!(found.call.block.is_empty());
+    }
+
+    #[test]
+    fn the_library_agrees_between_guard_bytes_and_between_guard_pages() {
+        for room in [Room::with_guard_bytes, Room::with_guard_pages] {
+            let mut comparison = Comparison::new(Reference, Library::new(room));
+            let mut prng = Prng::new(2);
+            while comparison.tally.calls < CALLS {
+                round(&mut prng, &mut comparison).expect("no difference");
+            }
+        }
+    }
+
+    #[test]
+    fn the_samples_of_the_package_are_the_papers_c1_and_c2() {
+        assert_eq!(encode(&litmus::c1()), include_bytes!("../../rust/samples/message-passing.block"));
+        assert_eq!(encode(&litmus::c2()), include_bytes!("../../rust/samples/message-passing-fences.block"));
+    }
+}

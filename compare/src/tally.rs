@@ -1,0 +1,85 @@
+//! How many calls were made, and what they gave.
+
+use crate::call::{Call, Outcome, Reply};
+use cogthunder::{Answer, Axiom};
+use std::collections::BTreeMap;
+use std::fmt;
+
+/// What a search or a reading of a block can be refused by.
+const REFUSALS: std::ops::RangeInclusive<u8> = 1..=17;
+const RULES: std::ops::RangeInclusive<u8> = 1..=13;
+/// Never the lowest rule: rule 1 holds of an LR and its SC too.
+const PAIRED: u8 = 8;
+
+const VERDICTS: [&str; 6] = ["allowed", "preserved order", "load value", "atomicity", "value read", "final value"];
+const SEARCHES: [&str; 3] = ["found", "none left", "spent"];
+
+#[derive(Default)]
+pub struct Tally {
+    pub calls: u64,
+    entries: BTreeMap<&'static str, u64>,
+    refusals: BTreeMap<u8, u64>,
+    verdicts: BTreeMap<&'static str, u64>,
+    rules: BTreeMap<u8, u64>,
+    searches: BTreeMap<&'static str, u64>,
+}
+
+fn verdict_name(axiom: &Axiom) -> &'static str {
+    VERDICTS[match axiom {
+        Axiom::PreservedOrder { .. } => 1,
+        Axiom::LoadValue { .. } => 2,
+        Axiom::Atomicity { .. } => 3,
+        Axiom::ValueRead { .. } => 4,
+        Axiom::FinalValue { .. } => 5,
+    }]
+}
+
+fn search_name(answer: &Answer) -> &'static str {
+    SEARCHES[match answer {
+        Answer::Found { .. } => 0,
+        Answer::NoneLeft { .. } => 1,
+        Answer::Spent { .. } => 2,
+    }]
+}
+
+impl Tally {
+    pub fn count(&mut self, call: &Call, outcome: &Outcome) {
+        self.calls += 1;
+        *self.entries.entry(call.entry.name()).or_default() += 1;
+        match &outcome.reply {
+            Reply::Refused { number, .. } => *self.refusals.entry(*number).or_default() += 1,
+            Reply::Broken(axiom) => {
+                *self.verdicts.entry(verdict_name(axiom)).or_default() += 1;
+                if let Axiom::PreservedOrder { rule, .. } = axiom {
+                    *self.rules.entry(*rule).or_default() += 1;
+                }
+            }
+            Reply::Good if call.entry.name() == "verdict" => *self.verdicts.entry(VERDICTS[0]).or_default() += 1,
+            Reply::Searched(answer) => *self.searches.entry(search_name(answer)).or_default() += 1,
+            Reply::Good | Reply::Blocks(_) | Reply::Witnesses { .. } => {}
+        }
+    }
+
+    /// What no call gave, though some call can.
+    pub fn unmet(&self) -> Vec<String> {
+        let refusals = REFUSALS.filter(|n| !self.refusals.contains_key(n)).map(|n| format!("refusal {n}"));
+        let rules = RULES.filter(|&n| n != PAIRED && !self.rules.contains_key(&n)).map(|n| format!("rule {n}"));
+        let verdicts = VERDICTS.iter().filter(|&name| !self.verdicts.contains_key(name)).map(|name| name.to_string());
+        let searches = SEARCHES.iter().filter(|&name| !self.searches.contains_key(name)).map(|name| name.to_string());
+        refusals.chain(rules).chain(verdicts).chain(searches).collect()
+    }
+}
+
+fn listed<K: fmt::Display>(counts: &BTreeMap<K, u64>) -> String {
+    counts.iter().map(|(key, count)| format!("{key}: {count}")).collect::<Vec<_>>().join(", ")
+}
+
+impl fmt::Display for Tally {
+    fn fmt(&self, f: &mut fmt::Formatter) -> fmt::Result {
+        writeln!(f, "  calls    {}", listed(&self.entries))?;
+        writeln!(f, "  refusals {}", listed(&self.refusals))?;
+        writeln!(f, "  verdicts {}", listed(&self.verdicts))?;
+        writeln!(f, "  rules    {}", listed(&self.rules))?;
+        write!(f, "  searches {}", listed(&self.searches))
+    }
+}

@@ -1,0 +1,99 @@
+/*
+ * Decides the test in a block file: prints whether the outcome is allowed, and exits with a status that says so.
+ *
+ *   gcc -std=c11 -O2 -Iinclude -o target/decide examples/decide.c target/staticlib/libcapi.a
+ *   target/decide rust/samples/message-passing.block
+ */
+#include <cogthunder.h>
+
+#include <errno.h>
+#include <inttypes.h>
+#include <stdio.h>
+#include <stdlib.h>
+#include <string.h>
+
+enum status { ALLOWED = 0, FORBIDDEN = 1, UNDECIDED = 2, UNUSABLE = 3 };
+
+static const uint64_t DEFAULT_ALLOWANCE = 1000000;
+
+static const char USAGE[] =
+    "usage: decide FILE [ALLOWANCE]\n"
+    "FILE holds one block of 512 bytes. At most ALLOWANCE prefixes are visited: 1000000, or up to 1000000000.\n"
+    "Exit status: 0 allowed, 1 forbidden, 2 undecided, 3 refused or not readable.\n";
+
+/* Reads the file, but no more than one byte past a block: a longer one is refused all the same. False if it can't. */
+static int read_file(const char *path, uint8_t block[CT_BLOCK + 1], size_t *length)
+{
+    FILE *file = fopen(path, "rb");
+    if (file == NULL) {
+        return 0;
+    }
+    *length = fread(block, 1, CT_BLOCK + 1, file);
+    int good = !ferror(file);
+    fclose(file);
+    return good;
+}
+
+/* False if the text isn't a whole number. */
+static int read_number(const char *text, uint64_t *number)
+{
+    char *end;
+    errno = 0;
+    *number = strtoull(text, &end, 10);
+    return text[0] >= '0' && text[0] <= '9' && *end == '\0' && errno == 0;
+}
+
+static enum status refused(uint64_t word)
+{
+    printf("refused %u", CT_BYTE1(word));
+    if (CT_BYTE2(word) != CT_NO_RECORD) {
+        printf(" at record %u", CT_BYTE2(word));
+    }
+    printf("\n");
+    return UNUSABLE;
+}
+
+static enum status allowed(uint64_t word, const uint8_t *order)
+{
+    printf("allowed, %" PRIu32 " visited, order", CT_VISITED(word));
+    for (unsigned i = 0; i < CT_BYTE1(word); i++) {
+        printf(" %u", order[i]);
+    }
+    printf("\n");
+    return ALLOWED;
+}
+
+static enum status decide(const uint8_t *block, size_t length, uint64_t allowance)
+{
+    uint8_t order[CT_EVENTS];
+    /* The start is empty; its pointer must not be null all the same. */
+    uint64_t word = ct_search(block, length, block, 0, order, sizeof order, allowance);
+    switch (CT_CASE(word)) {
+    case CT_FOUND:
+        return allowed(word, order);
+    case CT_NONE_LEFT:
+        printf("forbidden, %" PRIu32 " visited\n", CT_VISITED(word));
+        return FORBIDDEN;
+    case CT_SPENT:
+        printf("undecided, %" PRIu32 " visited\n", CT_VISITED(word));
+        return UNDECIDED;
+    default:
+        return refused(word);
+    }
+}
+
+int main(int count, char **arguments)
+{
+    uint8_t block[CT_BLOCK + 1];
+    size_t length = 0;
+    uint64_t allowance = DEFAULT_ALLOWANCE;
+    if (count < 2 || count > 3 || (count == 3 && !read_number(arguments[2], &allowance))) {
+        fputs(USAGE, stderr);
+        return UNUSABLE;
+    }
+    if (!read_file(arguments[1], block, &length)) {
+        fprintf(stderr, "%s: %s\n", arguments[1], strerror(errno));
+        return UNUSABLE;
+    }
+    return decide(block, length, allowance);
+}

@@ -1,0 +1,31 @@
+//! Blocks of tables, damaged in one place.
+
+use super::prng::Prng;
+use crate::encode::{encode, seal};
+use crate::layout::*;
+use crate::table::{Kind, Table};
+
+/// A table's block with one byte changed, mostly in one of its records; mostly the check is made
+/// right again.
+pub fn damaged(prng: &mut Prng, table: &Table) -> Vec<u8> {
+    let mut block = encode(table);
+    let record = record_at(prng.below(table.events.len()));
+    let at = match prng.below(12) {
+        0 => prng.below(BLOCK_LENGTH),
+        1 => prng.below(HEADER_ZEROS.end),
+        2 => initial_at(0) + prng.below(VALUE_LENGTH * MAX_LOCATIONS),
+        3 => final_at(0) + prng.below(VALUE_LENGTH * MAX_LOCATIONS),
+        4 => record + field::KIND,
+        5 => record + field::FLAGS,
+        _ => record + prng.below(RECORD_LENGTH),
+    };
+    block[at] = match prng.below(4) {
+        0 => prng.bits() as u8,
+        1 | 2 => prng.below(Kind::ALL.len() + 1) as u8,
+        _ => block[at] ^ 1 << prng.below(8),
+    };
+    if !prng.one_in(10) {
+        seal(&mut block);
+    }
+    block
+}

@@ -1,0 +1,15 @@
+//! The reference program of the RVWMO bench as a library, for programs that compare the bench with it.
+
+pub mod candidate;
+pub mod candidates;
+pub mod encode;
+pub mod generate;
+pub mod layout;
+pub mod litmus;
+pub mod readings;
+pub mod rules;
+pub mod search;
+pub mod stream;
+pub mod suite;
+pub mod table;
+pub mod walks;

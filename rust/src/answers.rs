@@ -1,0 +1,200 @@
+//! What the bench answers, and each answer in words.
+
+use std::error::Error;
+use std::fmt;
+
+/// A line `N<TAB>words` for each refusal, from 1.
+const REFUSALS: &str = include_str!("../../docs/refusals.txt");
+
+/// The rules of preserved program order in words, from rule 1.
+const RULES: [&str; 13] = [
+    "a later write to the same location",
+    "reads of one location that return from different writes",
+    "a read that returns from an earlier AMO or SC",
+    "a fence between",
+    "an acquire before",
+    "a release after",
+    "two RCsc annotations",
+    "an LR and its SC",
+    "an address dependency",
+    "a data dependency",
+    "a control dependency of a write",
+    "a read of a write that depends on the first",
+    "a write after an access whose address depends on the first",
+];
+
+/// Why the bench declines its input. Nothing was altered.
+///
+/// ```
+/// let refusal = cogthunder::read(b"no block").unwrap_err();
+/// assert_eq!(refusal.number, 1);
+/// assert_eq!(refusal.to_string(), "refused 1: the block isn't 512 bytes long");
+/// ```
+#[derive(Clone, Copy, PartialEq, Eq, Hash, Debug)]
+#[non_exhaustive]
+pub struct Refusal {
+    /// The number of the refusal, from 1.
+    pub number: u8,
+    /// The lowest record that breaks the line, for refusals 7 to 10.
+    pub record: Option<u8>,
+}
+
+impl Refusal {
+    /// What is wrong, in a sentence.
+    pub fn words(&self) -> &'static str {
+        let line = REFUSALS.lines().nth(usize::from(self.number) - 1);
+        line.and_then(|line| line.split_once('\t')).expect("each refusal has its line").1
+    }
+}
+
+impl fmt::Display for Refusal {
+    fn fmt(&self, f: &mut fmt::Formatter) -> fmt::Result {
+        write!(f, "refused {}", self.number)?;
+        if let Some(record) = self.record {
+            write!(f, " at record {record}")?;
+        }
+        write!(f, ": {}", self.words())
+    }
+}
+
+impl Error for Refusal {}
+
+/// Whether a candidate, an order with a returned list, shows the stated outcome.
+#[derive(Clone, Copy, PartialEq, Eq, Hash, Debug)]
+pub enum Verdict {
+    /// The rules allow it, and it has the stated values.
+    Allowed,
+    /// The first axiom or stated value that it breaks.
+    Broken(Axiom),
+}
+
+impl fmt::Display for Verdict {
+    fn fmt(&self, f: &mut fmt::Formatter) -> fmt::Result {
+        match self {
+            Verdict::Allowed => write!(f, "allowed"),
+            Verdict::Broken(axiom) => write!(f, "not allowed: {axiom}"),
+        }
+    }
+}
+
+/// What a candidate breaks, and where; a stated value that isn't met is given as an axiom is.
+#[derive(Clone, Copy, PartialEq, Eq, Hash, Debug)]
+pub enum Axiom {
+    /// Preserved program order puts event `a` before event `b`, and the order doesn't.
+    PreservedOrder {
+        /// The lowest event that stands after one which it has to precede.
+        a: u8,
+        /// The lowest event that `a` has to precede and stands after.
+        b: u8,
+        /// The lowest rule, from 1 to 13, that puts `a` before `b`.
+        rule: u8,
+    },
+    /// A reader doesn't return from the write that the order gives it.
+    LoadValue {
+        /// The lowest such reader.
+        reader: u8,
+    },
+    /// An LR and its SC are parted by another hart's write.
+    Atomicity {
+        /// The lowest such LR.
+        lr: u8,
+        /// The lowest write that parts it from its SC.
+        writer: u8,
+    },
+    /// A reader doesn't get its stated value.
+    ValueRead {
+        /// The lowest such reader.
+        reader: u8,
+    },
+    /// A location doesn't end with its stated value.
+    FinalValue {
+        /// The lowest such location.
+        location: u8,
+    },
+}
+
+impl fmt::Display for Axiom {
+    fn fmt(&self, f: &mut fmt::Formatter) -> fmt::Result {
+        match *self {
+            Axiom::PreservedOrder { a, b, rule } => {
+                let words = RULES[usize::from(rule) - 1];
+                write!(f, "event {a} has to come before event {b} by rule {rule} ({words}), and doesn't")
+            }
+            Axiom::LoadValue { reader } => {
+                write!(f, "event {reader} doesn't return from the latest write to its location that it sees")
+            }
+            Axiom::Atomicity { lr, writer } => {
+                write!(f, "event {writer} parts the LR of event {lr} from its SC")
+            }
+            Axiom::ValueRead { reader } => write!(f, "event {reader} doesn't read its stated value"),
+            Axiom::FinalValue { location } => write!(f, "location {location} doesn't end with its stated value"),
+        }
+    }
+}
+
+/// What a search found, and how many clean prefixes it visited.
+#[derive(Clone, Copy, PartialEq, Eq, Hash, Debug)]
+pub enum Answer {
+    /// A witness; its order is written.
+    Found {
+        /// The number of bytes written: the length of the order.
+        len: usize,
+        /// The place of the witness in the list of prefixes after the start, from 1.
+        visited: u64,
+    },
+    /// No witness is left after the start; nothing is written.
+    NoneLeft {
+        /// The number of prefixes after the start.
+        visited: u64,
+    },
+    /// No witness is among the first prefixes, as many as the allowance; the last of them is written.
+    Spent {
+        /// The number of bytes written: the length of the prefix.
+        len: usize,
+        /// The allowance.
+        visited: u64,
+    },
+}
+
+impl fmt::Display for Answer {
+    fn fmt(&self, f: &mut fmt::Formatter) -> fmt::Result {
+        match self {
+            Answer::Found { visited, .. } => write!(f, "a witness, {visited} prefixes visited"),
+            Answer::NoneLeft { visited } => write!(f, "no witness left, {visited} prefixes visited"),
+            Answer::Spent { visited, .. } => write!(f, "undecided, the allowance of {visited} prefixes is spent"),
+        }
+    }
+}
+
+#[cfg(test)]
+mod tests {
+    use super::*;
+
+    #[test]
+    fn each_refusal_has_its_line() {
+        let numbers: Vec<u8> = (1..=18).collect();
+        let listed: Vec<u8> =
+            REFUSALS.lines().map(|line| line.split_once('\t').expect("a tab").0.parse().expect("a number")).collect();
+        assert_eq!(listed, numbers);
+        for number in numbers {
+            assert!(!Refusal { number, record: None }.words().is_empty());
+        }
+    }
+
+    #[test]
+    fn answers_are_words() {
+        let refusal = Refusal { number: 10, record: Some(3) };
+        assert_eq!(
+            refusal.to_string(),
+            "refused 10 at record 3: the SC isn't paired: the nearest earlier LR or SC on its hart isn't an LR to the \
+             same location"
+        );
+        let broken = Verdict::Broken(Axiom::PreservedOrder { a: 0, b: 2, rule: 4 });
+        assert_eq!(
+            broken.to_string(),
+            "not allowed: event 0 has to come before event 2 by rule 4 (a fence between), and doesn't"
+        );
+        assert_eq!(Verdict::Allowed.to_string(), "allowed");
+        assert_eq!(Answer::NoneLeft { visited: 18 }.to_string(), "no witness left, 18 prefixes visited");
+    }
+}

@@ -1,0 +1,50 @@
+//! A proved bench for the RISC-V memory model (RVWMO).
+//!
+//! A test is a block of 512 bytes: loads, stores, AMOs, LR/SC pairs and fences of up to four harts, with the values that
+//! were read and the final values that are stated. The bench says whether the rules allow that outcome, and by which
+//! global memory orders. Events and locations are numbered from 0, in the order of the table.
+//!
+//! The functions here take any bytes: what they cannot work on they refuse, by a [`Refusal`] that says why, and a refusal
+//! alters no buffer. They call the proved static library, which allocates nothing and has no state.
+//!
+//! Whether an outcome is allowed, and by which orders:
+//!
+//! ```
+//! use cogthunder::Witnesses;
+//!
+//! // Hart 0 stores x=1 (event 0) and y=1 (1); hart 1 loads y reading 1 (2) and x reading 0 (3).
+//! let block = include_bytes!(concat!(env!("CARGO_MANIFEST_DIR"), "/samples/message-passing.block"));
+//! let orders: Vec<Vec<u8>> = Witnesses::of(block)?.collect();
+//! assert_eq!(orders.len(), 6);
+//! assert_eq!(orders[0], [1, 2, 3, 0]);
+//!
+//! // With a fence between the accesses of each hart no order gives that outcome: it is forbidden.
+//! let block = include_bytes!(concat!(env!("CARGO_MANIFEST_DIR"), "/samples/message-passing-fences.block"));
+//! assert_eq!(Witnesses::of(block)?.next(), None);
+//! # Ok::<(), cogthunder::Refusal>(())
+//! ```
+
+#![deny(missing_docs)]
+
+mod answers;
+mod library;
+mod witnesses;
+
+pub use answers::{Answer, Axiom, Refusal, Verdict};
+pub use library::{blocks, read, returns, search, verdict};
+pub use witnesses::Witnesses;
+
+/// The length of a block.
+pub const BLOCK: usize = 512;
+
+/// A test has at most this many events: room for any order and for any returned list.
+pub const EVENTS: usize = 16;
+
+/// The largest allowance of a search.
+pub const LARGEST_ALLOWANCE: u64 = 1_000_000_000;
+
+/// In a returned list: the entry of an event that doesn't read.
+pub const NOTHING: u8 = 254;
+
+/// In a returned list: the entry of an event that returns the initial value.
+pub const INITIALLY: u8 = 255;

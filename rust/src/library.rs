@@ -1,0 +1,181 @@
+//! The proved functions, each answer of which is one word.
+
+use crate::answers::{Answer, Axiom, Refusal, Verdict};
+
+extern "C" {
+    fn ct_read(block: *const u8, block_len: usize) -> u64;
+
+    fn ct_verdict(
+        block: *const u8,
+        block_len: usize,
+        returned: *const u8,
+        returned_len: usize,
+        order: *const u8,
+        order_len: usize,
+    ) -> u64;
+
+    fn ct_returns(
+        block: *const u8,
+        block_len: usize,
+        order: *const u8,
+        order_len: usize,
+        out: *mut u8,
+        out_len: usize,
+    ) -> u64;
+
+    fn ct_search(
+        block: *const u8,
+        block_len: usize,
+        start: *const u8,
+        start_len: usize,
+        out: *mut u8,
+        out_len: usize,
+        allowance: u64,
+    ) -> u64;
+
+    fn ct_blocks(suite: *const u8, suite_len: usize) -> u64;
+}
+
+/// Byte 0 of a word.
+const GOOD: u8 = 0;
+const REFUSED: u8 = 1;
+const PRESERVED_ORDER: u8 = 2;
+const LOAD_VALUE: u8 = 3;
+const ATOMICITY: u8 = 4;
+const VALUE_READ: u8 = 5;
+const FINAL_VALUE: u8 = 6;
+const FOUND: u8 = 7;
+const NONE_LEFT: u8 = 8;
+const SPENT: u8 = 9;
+
+/// In the place of a record where a refusal names none.
+const NO_RECORD: u8 = 255;
+
+/// Bytes 0 to 3 of a word, or the refusal that it says.
+fn parts(word: u64) -> Result<[u8; 4], Refusal> {
+    let [case, first, second, third, ..] = word.to_le_bytes();
+    match case {
+        REFUSED => Err(Refusal { number: first, record: Some(second).filter(|&record| record != NO_RECORD) }),
+        _ => Ok([case, first, second, third]),
+    }
+}
+
+/// Reads a block. It is refused by 1 to 11.
+///
+/// ```
+/// let mut block = *include_bytes!(concat!(env!("CARGO_MANIFEST_DIR"), "/samples/message-passing.block"));
+/// assert!(cogthunder::read(&block).is_ok());
+///
+/// block[7] = 3;
+/// let refusal = cogthunder::read(&block).unwrap_err();
+/// assert_eq!(refusal.number, 2);
+/// assert_eq!(refusal.words(), "the check in bytes 508 to 511 isn't the weighted sum of the bytes before it");
+/// ```
+pub fn read(block: &[u8]) -> Result<(), Refusal> {
+    // Here and below each pointer is that of a slice, beside its length; it isn't null, and what is written to is lent
+    // to this call alone.
+    let word = unsafe { ct_read(block.as_ptr(), block.len()) };
+    parts(word).map(|_| ())
+}
+
+/// The verdict for a candidate: `order` has each memory event once, and `returned` an entry for each event, which is the
+/// writer that it returns from, [`INITIALLY`](crate::INITIALLY), or [`NOTHING`](crate::NOTHING) for an event that
+/// doesn't read. It is refused by 1 to 14.
+///
+/// ```
+/// use cogthunder::{verdict, Axiom, Verdict, INITIALLY, NOTHING};
+///
+/// let block = include_bytes!(concat!(env!("CARGO_MANIFEST_DIR"), "/samples/message-passing-fences.block"));
+/// // Event 3 reads what event 2 stored, event 5 the initial value; 1 and 4 are fences.
+/// let returned = [NOTHING, NOTHING, NOTHING, 2, NOTHING, INITIALLY];
+/// let broken = verdict(block, &returned, &[2, 3, 5, 0])?;
+/// assert_eq!(broken, Verdict::Broken(Axiom::PreservedOrder { a: 0, b: 2, rule: 4 }));
+/// assert_eq!(
+///     broken.to_string(),
+///     "not allowed: event 0 has to come before event 2 by rule 4 (a fence between), and doesn't"
+/// );
+/// # Ok::<(), cogthunder::Refusal>(())
+/// ```
+pub fn verdict(block: &[u8], returned: &[u8], order: &[u8]) -> Result<Verdict, Refusal> {
+    let word = unsafe {
+        ct_verdict(block.as_ptr(), block.len(), returned.as_ptr(), returned.len(), order.as_ptr(), order.len())
+    };
+    let [case, first, second, third] = parts(word)?;
+    Ok(Verdict::Broken(match case {
+        GOOD => return Ok(Verdict::Allowed),
+        PRESERVED_ORDER => Axiom::PreservedOrder { a: first, b: second, rule: third },
+        LOAD_VALUE => Axiom::LoadValue { reader: first },
+        ATOMICITY => Axiom::Atomicity { lr: first, writer: second },
+        VALUE_READ => Axiom::ValueRead { reader: first },
+        FINAL_VALUE => Axiom::FinalValue { location: first },
+        _ => unreachable!("a verdict has no other case"),
+    }))
+}
+
+/// Writes the returned list that an order determines to the front of `out`, an entry for each event; bytes past it stay.
+/// It is refused by 1 to 13 and 16.
+///
+/// ```
+/// use cogthunder::{returns, verdict, Verdict, EVENTS, INITIALLY, NOTHING};
+///
+/// let block = include_bytes!(concat!(env!("CARGO_MANIFEST_DIR"), "/samples/message-passing.block"));
+/// let order = [1, 2, 3, 0];
+/// let mut returned = [0; 4];
+/// returns(block, &order, &mut returned)?;
+/// assert_eq!(returned, [NOTHING, NOTHING, 1, INITIALLY]);
+/// assert_eq!(verdict(block, &returned, &order)?, Verdict::Allowed);
+/// # Ok::<(), cogthunder::Refusal>(())
+/// ```
+pub fn returns(block: &[u8], order: &[u8], out: &mut [u8]) -> Result<(), Refusal> {
+    let word =
+        unsafe { ct_returns(block.as_ptr(), block.len(), order.as_ptr(), order.len(), out.as_mut_ptr(), out.len()) };
+    parts(word).map(|_| ())
+}
+
+/// Searches the clean prefixes after `start`, ascending, for the next witness, and visits at most `allowance` of them.
+/// The order found, or the last prefix visited if the allowance is spent, is written to the front of `out`, which has
+/// room for each memory event ([`EVENTS`](crate::EVENTS) is enough); bytes past it stay. `start` is empty, or what an
+/// earlier call wrote. It is refused by 1 to 11 and 15 to 17.
+///
+/// [`Witnesses`](crate::Witnesses) makes such calls one after the other.
+///
+/// ```
+/// use cogthunder::{search, Answer, EVENTS};
+///
+/// let block = include_bytes!(concat!(env!("CARGO_MANIFEST_DIR"), "/samples/message-passing.block"));
+/// let mut out = [0; EVENTS];
+/// let answer = search(block, &[], &mut out, 26)?;
+/// assert_eq!(answer, Answer::Spent { len: 3, visited: 26 });
+/// assert_eq!(out[..3], [1, 2, 3]);
+///
+/// let answer = search(block, &[1, 2, 3], &mut out, 1_000_000)?;
+/// assert_eq!(answer, Answer::Found { len: 4, visited: 1 });
+/// assert_eq!(out[..4], [1, 2, 3, 0]);
+/// # Ok::<(), cogthunder::Refusal>(())
+/// ```
+pub fn search(block: &[u8], start: &[u8], out: &mut [u8], allowance: u64) -> Result<Answer, Refusal> {
+    let word = unsafe {
+        ct_search(block.as_ptr(), block.len(), start.as_ptr(), start.len(), out.as_mut_ptr(), out.len(), allowance)
+    };
+    let [case, len, ..] = parts(word)?;
+    let (len, visited) = (usize::from(len), word >> u32::BITS);
+    Ok(match case {
+        FOUND => Answer::Found { len, visited },
+        NONE_LEFT => Answer::NoneLeft { visited },
+        SPENT => Answer::Spent { len, visited },
+        _ => unreachable!("a search has no other case"),
+    })
+}
+
+/// How many blocks a suite has; a last part block counts. Block k begins at byte 512 k.
+///
+/// ```
+/// let block = include_bytes!(concat!(env!("CARGO_MANIFEST_DIR"), "/samples/message-passing.block"));
+/// let suite = [&block[..], &block[..], &block[..100]].concat();
+/// assert_eq!(cogthunder::blocks(&suite), 3);
+/// let tests: Vec<bool> = suite.chunks(cogthunder::BLOCK).map(|block| cogthunder::read(block).is_ok()).collect();
+/// assert_eq!(tests, [true, true, false]);
+/// ```
+pub fn blocks(suite: &[u8]) -> u64 {
+    unsafe { ct_blocks(suite.as_ptr(), suite.len()) }
+}

@@ -1,0 +1,105 @@
+//! All witnesses of a test, one after the other.
+
+use crate::answers::{Answer, Refusal};
+use crate::library::search;
+use crate::{EVENTS, LARGEST_ALLOWANCE};
+use std::iter::FusedIterator;
+
+/// How many prefixes one search call visits at most, unless another allowance is chosen.
+const ALLOWANCE: u64 = 1_000_000;
+
+/// All witnesses of a test, ascending, each as an order: the numbers of its memory events. An outcome without a witness
+/// is forbidden.
+///
+/// A table may have more prefixes than one cares to wait for: [`step`](Witnesses::step) makes one search call at a time,
+/// and [`start`](Witnesses::start) is what has to be kept so that [`resume`](Witnesses::resume) goes on from there.
+///
+/// ```
+/// use cogthunder::{Answer, Witnesses};
+///
+/// let block = include_bytes!(concat!(env!("CARGO_MANIFEST_DIR"), "/samples/message-passing.block"));
+/// let mut walk = Witnesses::of(block)?.allowance(26);
+/// assert_eq!(walk.step(), Answer::Spent { len: 3, visited: 26 });
+/// let saved = walk.start().to_vec();
+/// assert_eq!(saved, [1, 2, 3]);
+///
+/// // Later, or elsewhere.
+/// let orders: Vec<Vec<u8>> = Witnesses::resume(block, &saved)?.collect();
+/// assert_eq!(orders.len(), 6);
+/// assert_eq!(orders, walk.collect::<Vec<_>>());
+/// # Ok::<(), cogthunder::Refusal>(())
+/// ```
+#[derive(Clone, Debug)]
+pub struct Witnesses<'a> {
+    block: &'a [u8],
+    start: Vec<u8>,
+    allowance: u64,
+    visited: u64,
+    finished: bool,
+}
+
+impl<'a> Witnesses<'a> {
+    /// From the beginning. It is refused by 1 to 11, as the block is.
+    pub fn of(block: &'a [u8]) -> Result<Witnesses<'a>, Refusal> {
+        Witnesses::resume(block, &[])
+    }
+
+    /// From a start that an earlier walk over the same block had reached. It is refused by 1 to 11, and by 15 if no walk
+    /// over this block could have such a start.
+    pub fn resume(block: &'a [u8], start: &[u8]) -> Result<Witnesses<'a>, Refusal> {
+        // Without any allowance, the call only tells whether it is refused.
+        search(block, start, &mut [0; EVENTS], 0)?;
+        Ok(Witnesses { block, start: start.to_vec(), allowance: ALLOWANCE, visited: 0, finished: false })
+    }
+
+    /// Chooses how many prefixes one search call visits at most: 1 to [`LARGEST_ALLOWANCE`], and what is outside is taken
+    /// as the nearest of these. The witnesses are the same with any allowance.
+    pub fn allowance(mut self, allowance: u64) -> Witnesses<'a> {
+        self.allowance = allowance.clamp(1, LARGEST_ALLOWANCE);
+        self
+    }
+
+    /// Makes one search call, and moves the start to what it wrote. After [`Answer::Found`] the start is the witness.
+    pub fn step(&mut self) -> Answer {
+        let mut out = [0; EVENTS];
+        let answer = search(self.block, &self.start, &mut out, self.allowance)
+            .expect("the block and the start are good, and the room and the allowance are enough");
+        match answer {
+            Answer::Found { len, visited } | Answer::Spent { len, visited } => {
+                self.start = out[..len].to_vec();
+                self.visited += visited;
+            }
+            Answer::NoneLeft { visited } => {
+                self.visited += visited;
+                self.finished = true;
+            }
+        }
+        answer
+    }
+
+    /// Where the next search call begins.
+    pub fn start(&self) -> &[u8] {
+        &self.start
+    }
+
+    /// How many prefixes were visited so far.
+    pub fn visited(&self) -> u64 {
+        self.visited
+    }
+}
+
+impl Iterator for Witnesses<'_> {
+    type Item = Vec<u8>;
+
+    /// Goes on until a witness is found or none is left, whatever the allowance.
+    fn next(&mut self) -> Option<Vec<u8>> {
+        while !self.finished {
+            if let Answer::Found { .. } = self.step() {
+                return Some(self.start.clone());
+            }
+        }
+        None
+    }
+}
+
+impl FusedIterator for Witnesses<'_> {}

@@ -1,0 +1,231 @@
+//! Reading a block in plain Rust: refusals 1 to 11, and the table.
+
+use crate::rules::{ACQUIRE, RELEASE};
+use crate::table::*;
+
+/// Where a record has bytes that are zero.
+const RECORD_ZEROS: std::ops::Range<usize> = 14..16;
+const HEADER_ZEROS: std::ops::Range<usize> = 9..16;
+const TAIL_ZEROS: std::ops::Range<usize> = 304..508;
+const ALL_FLAGS: u8 = 15;
+
+/// The lowest line that refuses a block and, for lines 7 to 10, the lowest record that breaks it.
+#[derive(Clone, Copy, Debug, PartialEq)]
+pub struct Refusal {
+    pub line: u8,
+    pub record: Option<usize>,
+}
+
+fn refuse_if(broken: bool, line: u8) -> Result<(), Refusal> {
+    if broken {
+        return Err(Refusal { line, record: None });
+    }
+    Ok(())
+}
+
+fn refuse_at(record: Option<usize>, line: u8) -> Result<(), Refusal> {
+    if record.is_some() {
+        return Err(Refusal { line, record });
+    }
+    Ok(())
+}
+
+pub fn read(block: &[u8]) -> Result<Table, Refusal> {
+    let block: &[u8; BLOCK] = block.try_into().map_err(|_| Refusal { line: 1, record: None })?;
+    refuse_if(block[CHECK_AT..] != check(block).to_le_bytes(), 2)?;
+    refuse_if(!block.starts_with(&MARKER), 3)?;
+    refuse_if(block[EDITION_AT] != EDITION, 4)?;
+    refuse_if(!is_in_range(block), 5)?;
+    refuse_if(!has_zeros(block), 6)?;
+    let t = decode(block);
+    let events = &t.events[..t.count];
+    refuse_at(events.iter().position(|e| fields_broken(e, block[HARTS_AT], block[LOCATIONS_AT])), 7)?;
+    refuse_at(events.iter().position(annotations_broken), 8)?;
+    refuse_at(dependencies_broken(events), 9)?;
+    refuse_at(pairing_broken(events), 10)?;
+    refuse_if(!events.iter().any(Event::is_memory), 11)?;
+    Ok(t)
+}
+
+fn is_in_range(block: &[u8; BLOCK]) -> bool {
+    let within = |at: usize, most: usize| (1..=most).contains(&usize::from(block[at]));
+    within(HARTS_AT, HARTS)
+        && within(LOCATIONS_AT, LOCATIONS)
+        && within(EVENTS_AT, EVENTS)
+        && u32::from(block[STATED_AT]) >> block[LOCATIONS_AT] == 0
+}
+
+/// All bytes are looked at, which is faster than to stop at the first that isn't zero.
+fn is_zero(bytes: &[u8]) -> bool {
+    bytes.iter().fold(0, |seen, byte| seen | byte) == 0
+}
+
+fn has_zeros(block: &[u8; BLOCK]) -> bool {
+    let (locations, count) = (usize::from(block[LOCATIONS_AT]), usize::from(block[EVENTS_AT]));
+    let records = &block[RECORDS_AT..FINALS_AT];
+    let is_stated = |x: usize| block[STATED_AT] >> x & 1 == 1;
+    is_zero(&block[HEADER_ZEROS])
+        && is_zero(&block[TAIL_ZEROS])
+        && is_zero(&block[INITIAL_AT + 2 * locations..RECORDS_AT])
+        && is_zero(&records[RECORD * count..])
+        && records.chunks(RECORD).all(|record| is_zero(&record[RECORD_ZEROS]))
+        && (0..LOCATIONS).all(|x| is_stated(x) || number(block, FINALS_AT + 2 * x) == 0)
+}
+
+fn number(bytes: &[u8], at: usize) -> u16 {
+    u16::from_le_bytes([bytes[at], bytes[at + 1]])
+}
+
+fn decode_event(record: &[u8]) -> Event {
+    let value = |k: usize| number(record, 4 + 2 * k);
+    Event {
+        kind: record[0],
+        hart: record[1],
+        location: record[2],
+        flags: record[3],
+        addr: value(0),
+        data: value(1),
+        ctrl: value(2),
+        read: value(3),
+        written: value(4),
+    }
+}
+
+fn decode(block: &[u8; BLOCK]) -> Table {
+    let mut t = Table {
+        count: block[EVENTS_AT].into(),
+        locations: block[LOCATIONS_AT].into(),
+        stated: block[STATED_AT],
+        initial: std::array::from_fn(|x| number(block, INITIAL_AT + 2 * x)),
+        finals: std::array::from_fn(|x| number(block, FINALS_AT + 2 * x)),
+        ..Table::default()
+    };
+    for (e, record) in t.events[..t.count].iter_mut().zip(block[RECORDS_AT..].chunks(RECORD)) {
+        *e = decode_event(record);
+    }
+    t
+}
+
+fn fields_broken(e: &Event, harts: u8, locations: u8) -> bool {
+    let has_place = e.location != 0 || e.addr | e.data | e.ctrl != 0;
+    !(LOAD..=FENCE_TSO).contains(&e.kind)
+        || e.hart >= harts
+        || e.location >= locations
+        || e.flags > ALL_FLAGS
+        || !e.reads() && e.read != 0
+        || !e.writes() && e.written != 0
+        || !e.is_memory() && has_place
+        || e.kind == FENCE_TSO && e.flags != 0
+}
+
+fn annotations_broken(e: &Event) -> bool {
+    let (acquire, release) = (e.flags & ACQUIRE, e.flags & RELEASE);
+    e.is_memory()
+        && (acquire == ACQUIRE
+            || release == RELEASE
+            || e.reads() && release != 0 && acquire == 0
+            || !e.reads() && acquire != 0 && release == 0)
+}
+
+/// Whether what follows may depend on the event.
+fn has_result(e: &Event) -> bool {
+    e.reads() || e.kind == SC
+}
+
+fn dependencies_broken(events: &[Event]) -> Option<usize> {
+    // For each hart, the control bits that all later memory events have; then the events that may be depended on.
+    let mut kept = [u16::MAX; HARTS];
+    let mut lacking = 0;
+    for (k, e) in events.iter().enumerate().rev() {
+        let kept = &mut kept[usize::from(e.hart)];
+        lacking |= u32::from(e.ctrl & !*kept != 0) << k;
+        if e.is_memory() {
+            *kept &= e.ctrl;
+        }
+    }
+    let mut sources = [0; HARTS];
+    events.iter().enumerate().position(|(k, e)| {
+        let sources = &mut sources[usize::from(e.hart)];
+        let names_wrongly = (e.addr | e.data | e.ctrl) & !*sources != 0;
+        if has_result(e) {
+            *sources |= 1 << k;
+        }
+        names_wrongly || e.data != 0 && !e.writes() || lacking >> k & 1 == 1
+    })
+}
+
+fn pairing_broken(events: &[Event]) -> Option<usize> {
+    // For each hart, the location of its latest LR, unless an SC followed.
+    let mut open = [None; HARTS];
+    events.iter().position(|e| {
+        let open = &mut open[usize::from(e.hart)];
+        match e.kind {
+            LR => {
+                *open = Some(e.location);
+                false
+            }
+            SC => open.take() != Some(e.location),
+            _ => false,
+        }
+    })
+}
+
+#[cfg(test)]
+mod tests {
+    use super::*;
+    use oracle::generate::damage::damaged;
+    use oracle::generate::prng::Prng;
+    use oracle::generate::random::any_table;
+    use oracle::generate::readings::make_readings;
+    use oracle::stream::Stream;
+
+    const DAMAGED_BLOCKS: usize = 50_000;
+
+    /// What both give: none if the table is good and the same, otherwise the refusal's line.
+    fn agreed(block: &[u8]) -> Option<u8> {
+        match (read(block), oracle::table::read(block)) {
+            (Ok(t), Ok(other)) => {
+                assert_same(&t, &other);
+                None
+            }
+            (Err(refusal), Err(other)) => {
+                assert_eq!(refusal, Refusal { line: other.line as u8, record: other.record });
+                Some(refusal.line)
+            }
+            (one, other) => panic!("{:?}, but {other:?}", one.err()),
+        }
+    }
+
+    fn assert_same(t: &Table, other: &oracle::table::Table) {
+        assert_eq!((t.count, t.locations, t.stated), (other.events.len(), other.locations, other.stated));
+        assert_eq!((t.initial, t.finals), (other.initial, other.finals));
+        for (e, f) in t.events.iter().zip(&other.events) {
+            let bytes = (f.kind as u8, f.hart as u8, f.location as u8, f.flags);
+            assert_eq!((e.kind, e.hart, e.location, e.flags), bytes);
+            let words = [f.address, f.data, f.control, f.read, f.written];
+            assert_eq!([e.addr, e.data, e.ctrl, e.read, e.written], words);
+        }
+    }
+
+    #[test]
+    fn the_stored_readings_are_those_of_the_independent_program() {
+        let readings = make_readings();
+        let mut stream = Stream::new(&readings);
+        while !stream.is_empty() {
+            agreed(stream.frame().expect("the stream is whole"));
+        }
+    }
+
+    #[test]
+    fn damaged_tables_are_read_as_by_the_independent_program() {
+        let mut prng = Prng::new(1);
+        let mut lines: Vec<u8> = Vec::new();
+        for _ in 0..DAMAGED_BLOCKS {
+            let table = any_table(&mut prng);
+            lines.extend(agreed(&damaged(&mut prng, &table)));
+        }
+        lines.sort();
+        lines.dedup();
+        assert_eq!(lines, [2, 3, 4, 5, 6, 7, 8, 9, 10, 11]);
+    }
+}
