@@ -15,7 +15,7 @@ use Rattle.model.specs.Axioms.{valuesRead, finalValues}
 use Rattle.model.specs.Witness.{isOrder, lawful, witness}
 use Rattle.model.specs.Verdict.{Verdict, allowed, verdict}
 use Rattle.model.proofs.VerdictLaws.{witness-allowed}
-use Rattle.values.specs.Prepared.{valuesReadBy, finalValuesBy}
+use Rattle.values.specs.QuickTest.{valuesReadBy, finalValuesBy}
 use Rattle.values.proofs.ValueLaws.{values-read, final-values}
 use Rattle.verdict.specs.Judged.{judged, axiomOf, judgedOf}
 use Rattle.verdict.specs.declared.Axiom as axioms

@@ -16,7 +16,7 @@ use Rattle.engine.specs.State.{Prepared, Holds}
 use Rattle.search.specs.declared.Outcome.{Outcome}
 use Rattle.search.specs.declared.Outcome.the-variants.{Found, NoneLeft, Spent}
 use Rattle.search.specs.Outcome.{outcomeOf}
-use Rattle.values.specs.Prepared.{readersOf, rivalMasks, ownMasks, initialValues, writtenValues, statedValues, writerMasks}
+use Rattle.prepared.specs.Prepared.{readersOf, rivalMasks, ownMasks, initialValues, writtenValues, statedValues, writerMasks}
 use Rattle.precedence.specs.Precedence.{predecessorMasks, memoryMask}
 
 -- the counts of a table that was read

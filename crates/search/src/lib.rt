@@ -170,13 +170,13 @@ fn run(
     requires { ⌜ Masked t (now pred) (now succ) mem × Holds (now pred) mem (now order) start first ready ⌝ }
     ensures { λ r. ⌜ Ran t (take start (now (order .entry))) budget r (now (order .exit)) ⌝ }
 {
-    let readers = values::prepare::readers(t);
-    let rivals = values::prepare::rival_masks(t);
-    let own = values::prepare::own_masks(t);
-    let initial = values::prepare::initial_values(t);
-    let written = values::prepare::written_values(t);
-    let stated = values::prepare::stated_values(t);
-    let writers = values::prepare::writer_masks(t);
+    let readers = prepared::readers(t);
+    let rivals = prepared::rival_masks(t);
+    let own = prepared::own_masks(t);
+    let initial = prepared::initial_values(t);
+    let written = prepared::written_values(t);
+    let stated = prepared::stated_values(t);
+    let writers = prepared::writer_masks(t);
     let starts = t.initial;
     let finals = t.finals;
     walk(

@@ -2,6 +2,4 @@ pub mod OrderLaws
 pub mod LastLaws
 pub mod ReturnLaws
 pub mod LeftLaws
-pub mod GatherLaws
-pub mod FillLaws
 pub mod ValueLaws

@@ -15,8 +15,8 @@ use Rattle.lists.proofs.ListLaws.{all-has}
 use Rattle.table.specs.declared.Table.{Table}
 use Rattle.table.specs.Events.{capacity, memory, memoryEvents}
 use Rattle.model.specs.Witness.{isMemoryEvent, isOrder}
-use Rattle.values.specs.Prepared.{Listed}
-use Rattle.values.proofs.GatherLaws.{has-keep, has-below}
+use Rattle.prepared.proofs.GatherLaws.{has-keep, has-below}
+use Rattle.values.specs.QuickTest.{Listed}
 
 -- what every entry passes, the entry at j passes
 all-getD : (q : ℕ → Bool) (l : List ℕ) (j : ℕ) → all q l ≡ true → j < length l → q (getD l j 0) ≡ true

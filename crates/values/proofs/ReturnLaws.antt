@@ -16,8 +16,9 @@ use Rattle.table.specs.Events.{reads, writes, memory, sameLocation, po}
 use Rattle.model.specs.Rules.{initially}
 use Rattle.model.specs.Returns.{visible, returnOf}
 use Rattle.model.specs.Witness.{isMemoryEvent}
-use Rattle.values.specs.Prepared.{rival, ownRival, rivalsOf, ownOf, Listed, visibleBy, returnBy}
-use Rattle.values.proofs.GatherLaws.{mask-below}
+use Rattle.prepared.specs.Prepared.{rival, ownRival, rivalsOf, ownOf}
+use Rattle.prepared.proofs.GatherLaws.{mask-below}
+use Rattle.values.specs.QuickTest.{Listed, visibleBy, returnBy}
 use Rattle.values.proofs.LastLaws.{last-same, Behind, behind-start, behind-more, behind-hit, behind-end}
 
 -- an entry is in the list

@@ -9,7 +9,6 @@ use lib.ListN.{getD}
 use borrow.Author.Tests.{ltb-true, lt-ltb, le-ltb, eqb-true}
 use Rattle.lists.specs.Below.{some}
 use Rattle.lists.specs.Lists.{lastOr}
-use Rattle.lists.specs.Filled.{upTo}
 use Rattle.lists.proofs.BoolLaws.{and-l, and-r, and-taken, and-left, bool-ext}
 use Rattle.lists.proofs.SomeLaws.{some-at, some-found, some-same}
 use Rattle.lists.proofs.FilledLaws.{getD-upTo}
@@ -21,11 +20,12 @@ use Rattle.model.specs.Rules.{initially, nothing, from}
 use Rattle.model.specs.Returns.{visible, returnOf, returnEntry, returns, initialValue, writtenValue, finalValue}
 use Rattle.model.specs.Axioms.{breaksValueRead, breaksFinalValue, valuesRead, finalValues}
 use Rattle.model.specs.Witness.{isMemoryEvent, isOrder}
-use Rattle.values.specs.Prepared.{writesTo, rivalsOf, ownOf, writersOf, readersOf}
-use Rattle.values.specs.Prepared.{rivalMasks, ownMasks, writerMasks, writtenValues, statedValues, initialValues}
-use Rattle.values.specs.Prepared.{returnBy, valueBy, breaksReadBy, valuesReadBy, breaksFinalBy, finalValuesBy}
+use Rattle.prepared.specs.Prepared.{writesTo, rivalsOf, ownOf, writersOf, readersOf, perEvent}
+use Rattle.prepared.specs.Prepared.{rivalMasks, ownMasks, writerMasks, writtenValues, statedValues, initialValues}
+use Rattle.prepared.proofs.GatherLaws.{mask-below}
+use Rattle.prepared.proofs.PreparedLaws.{entry-of}
+use Rattle.values.specs.QuickTest.{returnBy, valueBy, breaksReadBy, valuesReadBy, breaksFinalBy, finalValuesBy}
 use Rattle.values.proofs.OrderLaws.{all-imp, order-events}
-use Rattle.values.proofs.GatherLaws.{mask-below}
 use Rattle.values.proofs.LastLaws.{last-all, last-same}
 use Rattle.values.proofs.ReturnLaws.{return-same}
 
@@ -59,8 +59,8 @@ value-same t x w h k = go (eqb w initially) refl k
         valueBy (writtenValues t) (initialValue t x) w ≡ cond b (initialValue t x) (event t w .written)
     go true e k = rw (le-ltb w capacity (omega (arith, eqb-true w initially e)))
     go false e k =
-        let l : w < capacity = omega (arith, ltb-true w (t .count) k) in
-        rw (lt-ltb w capacity l) (getD-upTo capacity (λ j. event t j .written) w 0 l)
+        let l : w < t .count = ltb-true w (t .count) k in
+        rw (lt-ltb w capacity (omega arith)) (entry-of t (λ j. event t j .written) w h l)
 
 -- the last of an order's entries that pass is such a write
 last-is : (t : Table) (gmo : List ℕ) → isOrder t gmo ≡ true → (f : ℕ → Bool) → isWrite t (lastOr f initially gmo) ≡ true
@@ -74,8 +74,8 @@ last-is t gmo o f =
 module _ (t : Table) (gmo : List ℕ) (small : t .count ≤ capacity) (order : isOrder t gmo ≡ true) where
   module _ (r : ℕ) (l : r < t .count) (h : reads t r ≡ true) where
     -- the entry of r in an array
-    entry : (f : ℕ → ℕ) → getD (upTo capacity f) r 0 ≡ f r
-    entry f = getD-upTo capacity f r 0 (omega arith)
+    entry : (f : ℕ → ℕ) → getD (perEvent t f) r 0 ≡ f r
+    entry f = entry-of t f r small l
 
     -- reader r returns from the same write
     return-of : returnBy (getD (rivalMasks t) r 0) (getD (ownMasks t) r 0) gmo r ≡ returnOf t gmo r

@@ -1,9 +1,6 @@
 // The quick test of an order's values. It takes small lent arrays in place of the table, which is copied at each call.
 use edition::EditionOne;
 use table::CAPACITY;
-
-pub mod prepare;
-
 ghost use Prim.Native.Nat.{_≤_};
 ghost use mathlib.Core.Path.{_≡_};
 ghost use lib.ListN.{take};
@@ -12,7 +9,7 @@ ghost use Rattle.lists.specs.Lists.{lastOr};
 ghost use Rattle.masks.specs.Bit.{bit};
 ghost use Rattle.edition.specs.Limits.{maxLocations};
 ghost use Rattle.model.specs.Rules.{initially};
-ghost use Rattle.values.specs.Prepared.{Listed, returnBy, valueBy, valuesReadBy, finalValuesBy};
+ghost use Rattle.values.specs.QuickTest.{Listed, returnBy, valueBy, valuesReadBy, finalValuesBy};
 
 // The initial write, as what is returned from: no event has that number.
 const INITIALLY: u8 = 255;

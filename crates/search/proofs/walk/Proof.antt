@@ -13,7 +13,7 @@ use Rattle.prefixes.specs.Answer.{found, noneLeft, spent}
 use Rattle.engine.specs.State.{Moved, NextIs, Holds}
 use Rattle.search.specs.Running.{searchFrom}
 use Rattle.values.proofs.OrderLaws.{order-listed}
-use Rattle.values.specs.Prepared.{Listed}
+use Rattle.values.specs.QuickTest.{Listed}
 use Rattle.search.proofs.WitnessLaws.{value-differs, final-differs}
 use Rattle.search.proofs.RunLaws.{total-ones, held-clean, held-long, held-short, run-none, run-spent, run-found, run-on, whole-is-order, part-is-none}
 use borrow.Author.Needs.{needs}

@@ -7,7 +7,7 @@ use native.Mathlib.Omega.{arith}
 use lib.ListN.{take}
 use Rattle.lists.proofs.BoolLaws.{and-left}
 use Rattle.lists.proofs.ScanLaws.{Scanned, scan-start, scan-more, some-hit, some-end}
-use Rattle.values.specs.Prepared.{finalValuesBy, breaksFinalBy}
+use Rattle.values.specs.QuickTest.{finalValuesBy, breaksFinalBy}
 use borrow.Author.Needs.{needs}
 use Rattle.values.proofs.final_values.Statement.{statement}
 use Rattle.values.proofs.final_values.Tie as tie

@@ -5,7 +5,7 @@ use mathlib.Core.Path.{ap, sym}
 use native.Mathlib.Omega.{arith}
 use lib.ListN.{take}
 use Rattle.table.specs.Events.{capacity}
-use Rattle.values.specs.Prepared.{valuesReadBy, breaksReadBy}
+use Rattle.values.specs.QuickTest.{valuesReadBy, breaksReadBy}
 use Rattle.values.proofs.LeftLaws.{Left, left-lowest, left-hit, left-more, left-less, left-end}
 use borrow.Author.Needs.{needs}
 use Rattle.values.proofs.values_read.Statement.{statement}

@@ -1,0 +1,4 @@
+pub mod GatherLaws
+pub mod FillLaws
+pub mod SortLaws
+pub mod PreparedLaws

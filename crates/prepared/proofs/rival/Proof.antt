@@ -1,0 +1,18 @@
+use borrow.Author.Needs.{needs}
+use Rattle.prepared.proofs.rival.Statement.{statement}
+use Rattle.prepared.proofs.rival.Tie as tie
+
+reads-requires : tie.Need-reads-requires
+reads-requires c κs = search needs
+
+writes-requires : tie.Need-writes-requires
+writes-requires c κs = search needs
+
+same-location-requires : tie.Need-same-location-requires
+same-location-requires c κs = search needs
+
+returns : tie.Need-returns
+returns c = cc
+
+pub rival-spec : {M : Type 1} → statement M
+rival-spec = tie.close (tie.spec reads-requires writes-requires same-location-requires returns)
