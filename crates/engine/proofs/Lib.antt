@@ -1,5 +1,6 @@
 pub mod CleanLaws
 pub mod SiftLaws
+pub mod WaitLaws
 pub mod KeptLaws
 pub mod StateLaws
 pub mod LoadLaws

@@ -1,9 +1,10 @@
 -- What the engine's masks and its order stand for, and what its answers say.
 use Prim.Native.Nat.{ℕ, _+_, _^_, _≤_, _<_}
 use mathlib.Core.Path.{_≡_}
-use mathlib.Core.Bool.{true, false, _&&_}
+use mathlib.Core.Bool.{true, false, cond, _&&_}
 use mathlib.Core.List.{List, [], _∷_, _++_}
 use lib.ListN.{length, getD, take, set}
+use lib.Bits.{bitOr}
 use lib.Count.{ones}
 use Rattle.masks.specs.Bit.{bit}
 use Rattle.masks.specs.MaskOf.{maskOf}
@@ -22,6 +23,11 @@ Waiting preds mem e m = (k : ℕ) → bit m k ≡ (bit mem k && bit (getD preds 
 pub record Prepared (preds succs : List ℕ) (mem : ℕ) : Type 0 where
   pub small : mem < 2 ^ limit
   pub waiting : (e : ℕ) → e < slots → Waiting preds mem e (getD succs e 0)
+
+-- event k was added to the masks, in succs, of the events of preds
+pub record Added (succs : List ℕ) (preds k : ℕ) (added : List ℕ) : Type 0 where
+  pub long : length added ≡ slots
+  pub each : (e : ℕ) → e < slots → getD added e 0 ≡ bitOr (getD succs e 0) (cond (bit preds e) (2 ^ k) 0)
 
 -- can is the mask of the events that may come next
 abbrev pub Current : List ℕ → ℕ → ℕ → ℕ → Type 0

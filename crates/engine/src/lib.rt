@@ -10,7 +10,7 @@ ghost use lib.ListN.{length, getD};
 ghost use lib.Bits.{bitAnd, bitOr, bitXor};
 ghost use Rattle.masks.specs.Bit.{bit};
 ghost use Rattle.engine.specs.CleanMasks.{slots, limit, ready};
-ghost use Rattle.engine.specs.State.{Waiting, Prepared, Current, Holds, LoadedAs, NextIs};
+ghost use Rattle.engine.specs.State.{Added, Prepared, Current, Holds, LoadedAs, NextIs};
 
 // The bits of a mask, and the entries of an order.
 pub const SLOTS: usize = 32;
@@ -38,24 +38,6 @@ pub enum Step {
     End,
 }
 
-// The events of `mem` that wait for `e`.
-fn waiting(pred: &[u32; SLOTS], mem: u32, e: u32) -> u32
-    requires { ⌜ e < slots ⌝ }
-    ensures { λ r. ⌜ Waiting (now (pred .entry)) mem e r ⌝ }
-{
-    let mut left = mem;
-    let mut found: u32 = 0;
-    while left != 0 {
-        let k = lowest_set(left);
-        let b = one(k);
-        left ^= b;
-        if has(pred[k as usize], e) {
-            found |= b;
-        }
-    }
-    found
-}
-
 // The events of `rest` that are ready. No other is looked at.
 fn ready_of(pred: &[u32; SLOTS], rest: u32, placed: u32) -> u32
     ensures { λ r. ⌜ ((k : ℕ) → bit r k ≡ (bit rest k && ready (now (pred .entry)) placed k)) ⌝ }
@@ -73,14 +55,31 @@ fn ready_of(pred: &[u32; SLOTS], rest: u32, placed: u32) -> u32
     found
 }
 
+// Event `k` waits for each of `preds`: it goes to their masks of those that wait.
+fn add_waiting(succ: &mut [u32; SLOTS], preds: u32, k: u32)
+    requires { ⌜ (length (now succ) ≡ slots) × (k < slots) ⌝ }
+    ensures { λ _. ⌜ Added (now (succ .entry)) preds k (now (succ .exit)) ⌝ }
+{
+    let b = one(k);
+    let mut left = preds;
+    while left != 0 {
+        let e = lowest_set(left);
+        succ[e as usize] = succ[e as usize] | b;
+        left ^= one(e);
+    }
+}
+
 // For each event the mask of the events of `mem` that wait for it.
 pub fn successors(pred: &[u32; SLOTS], mem: u32) -> [u32; SLOTS]
     requires { ⌜ mem < 2 ^ limit ⌝ }
     ensures { λ r. ⌜ Prepared (now (pred .entry)) r mem ⌝ }
 {
     let mut succ = [0u32; SLOTS];
-    for e in 0..SLOTS {
-        succ[e] = waiting(pred, mem, e as u32);
+    let mut left = mem;
+    while left != 0 {
+        let k = lowest_set(left);
+        add_waiting(&mut succ, pred[k as usize], k);
+        left ^= one(k);
     }
     succ
 }

@@ -1,65 +1,54 @@
-use Prim.Native.Nat.{ℕ, _+_, _-_, _≤_, _<_}
-use mathlib.Core.Path.{refl, _≡_, sym, subst}
-use mathlib.Core.List.{List}
 use native.Mathlib.Omega.{arith}
-use lib.ListN.{length-set, length, getD, set}
-use lib.Seq.{getD-set-same, getD-set-other}
-use borrow.Author.Count.{below-more}
-use Rattle.engine.specs.CleanMasks.{slots}
-use Rattle.engine.specs.State.{Waiting}
+use Rattle.engine.proofs.WaitLaws.{Telling, tell-start, tell-room, tell-less, tell-more, tell-end}
 use borrow.Author.Needs.{needs}
 use Rattle.engine.proofs.successors.Statement.{statement}
 use Rattle.engine.proofs.successors.Tie as tie
 
--- what holds of the entries below i, and of what is stored at i, holds of the entries below i + 1
-filled : (P : ℕ → ℕ → Type 0) (l : List ℕ) (i v : ℕ) → i < length l → ((j : ℕ) → j < i → P j (getD l j 0)) → P i v →
-    (j : ℕ) → j < i + 1 → P j (getD (set l i v) j 0)
-filled P l i v h old new =
-    below-more (λ j. P j (getD (set l i v) j 0)) i
-    (λ j k. subst (P j) (sym (getD-set-other l i j v 0 (λ e. absurd (omega arith)))) (old j k))
-    (subst (P i) (sym (getD-set-same l i v 0 h)) new)
-
 abbrev Inv-loop : tie.InvT-loop
-Inv-loop pred mem succ₀ e₀ succ e =
-    (e ≤ slots) × (length succ ≡ slots) × ((j : ℕ) → j < e → Waiting pred mem j (getD succ j 0))
+Inv-loop pred mem succ₀ left₀ succ left = Telling pred mem left succ
 
 abbrev μ-loop : tie.MeasureT-loop
-μ-loop pred mem succ₀ e₀ succ e = slots - e
+μ-loop pred mem succ₀ left₀ succ left = left
 
 loop-holds : tie.Need-loop-holds Inv-loop μ-loop
-loop-holds c = (search needs, refl, λ j l. absurd (omega arith))
+loop-holds c = tell-start (omega (arith, c .pre))
 
-cast-waiting : tie.Need-cast-waiting Inv-loop μ-loop
-cast-waiting c = search needs
+lowest-set-requires : tie.Need-lowest-set-requires Inv-loop μ-loop
+lowest-set-requires c κs = search needs
 
-waiting-requires : tie.Need-waiting-requires Inv-loop μ-loop
-waiting-requires c κs = search needs
+cast-add-waiting : tie.Need-cast-add-waiting Inv-loop μ-loop
+cast-add-waiting c = search needs
 
-mul-succ : tie.Need-mul-succ Inv-loop μ-loop
-mul-succ c = search needs
+mul-add-waiting : tie.Need-mul-add-waiting Inv-loop μ-loop
+mul-add-waiting c = search needs
 
-array-write-succ : tie.Need-array-write-succ Inv-loop μ-loop
-array-write-succ c = search needs
+element-copy-out-add-waiting : tie.Need-element-copy-out-add-waiting Inv-loop μ-loop
+element-copy-out-add-waiting c =
+    let d = c .before in
+    tell-room (d .before .before .loop .inv) (d .before .loop-test .taken) (d .lowest-set .ensures)
 
-add-e : tie.Need-add-e Inv-loop μ-loop
-add-e c = search needs
+add-waiting-requires : tie.Need-add-waiting-requires Inv-loop μ-loop
+add-waiting-requires c κs =
+    let d = c .before .before in
+    (d .before .before .loop .inv .long, tell-room (d .before .before .loop .inv) (d .before .loop-test .taken) (d .lowest-set .ensures))
+
+one-requires : tie.Need-one-requires Inv-loop μ-loop
+one-requires c κs =
+    let d = c .before .before .before in
+    tell-room (d .before .before .loop .inv) (d .before .loop-test .taken) (d .lowest-set .ensures)
 
 loop-less : tie.Need-loop-less Inv-loop μ-loop
-loop-less c = search needs
+loop-less c =
+    let d = c .before .before .before .before in
+    tell-less (d .before .before .loop .inv) (d .before .loop-test .taken) (d .lowest-set .ensures) (c .one .ensures)
 
 loop-again : tie.Need-loop-again Inv-loop μ-loop
 loop-again c =
-    let v = c .before .before .loop in
-    let s = c .before .before .before in (
-      omega arith,
-      simp length-set (v .inv .1),
-      filled (Waiting (s .args .pred .now) (s .args .mem)) (v .succ) (v .e) _ (omega arith) (v .inv .2) (c .waiting .ensures),
-    )
+    let d = c .before .before .before .before in
+    tell-more (d .before .before .loop .inv) (d .before .loop-test .taken) (d .lowest-set .ensures) (c .one .ensures) (c .before .add-waiting .ensures)
 
 returns : tie.Need-returns Inv-loop μ-loop
-returns c =
-    let v = c .before .loop in
-    record { small = c .before .before .pre; waiting = λ e h. v .inv .2 e (omega arith) }
+returns c = tell-end (c .before .loop .inv) (c .before .before .pre) (c .loop-test .left)
 
 pub successors-spec : {M : Type 1} → statement M
 successors-spec =
@@ -68,11 +57,12 @@ successors-spec =
     Inv-loop
     μ-loop
     loop-holds
-    cast-waiting
-    waiting-requires
-    mul-succ
-    array-write-succ
-    add-e
+    lowest-set-requires
+    cast-add-waiting
+    mul-add-waiting
+    element-copy-out-add-waiting
+    add-waiting-requires
+    one-requires
     loop-less
     loop-again
     returns)
