@@ -36,7 +36,7 @@ fn row(t: Table, b: EventNo) -> u32
         a -= 1;
         let x = t.events[a as usize];
         if table::program_order(EventNo(a), x, b, y) & table::memory(x) & table::memory(y) {
-            if rules::static_ppo(t, EventNo(a), b) {
+            if static_rules::static_ppo(t, EventNo(a), b) {
                 mask |= one(a as u32);
             }
         }

@@ -9,38 +9,32 @@ use overlap::rule2;
 use overlap::rule3;
 use pipeline::rule12;
 use pipeline::rule13;
+use static_rules::may_order;
 use synchronization::rule4;
 use synchronization::rule5;
 use synchronization::rule6;
 use synchronization::rule7;
 use synchronization::rule8;
-use table::Event;
 use table::Table;
 ghost use Prim.Native.Nat.{_≤_, _<_};
 ghost use mathlib.Core.Path.{_≡_};
-ghost use mathlib.Core.Bool.{_&&_};
-ghost use lib.Dec.{eqb, ltb};
 ghost use lib.ListN.{length};
-ghost use Rattle.table.specs.Events.{capacity, memoryKind};
-ghost use Rattle.model.specs.Rules.{rules, ppo, staticPpo};
-ghost use Rattle.rules.specs.RuleMask.{setMask, lowestIn, inPlaces};
+ghost use Rattle.table.specs.Events.{capacity};
+ghost use Rattle.model.specs.Rules.{rules, ppo};
+ghost use Rattle.rules.specs.RuleMask.{setMask, lowestIn};
 
 const RULES: usize = 13;
 
-// Which of the thirteen hold, in their order, where 2, 3 and 12, which look at what was returned, are given.
-fn in_places(
-    t: Table,
-    a: EventNo,
-    b: EventNo,
-    second: bool,
-    third: bool,
-    twelfth: bool,
-) -> [bool; RULES]
-    requires { ⌜ (a .0 < capacity) × (b .0 < capacity) × (t .count ≤ capacity) ⌝ }
-    ensures { λ r. ⌜ r ≡ inPlaces t (a .0) (b .0) second third twelfth ⌝ }
+// Which of the thirteen hold, in their order.
+fn rules(t: Table, rf: &[u8], a: EventNo, b: EventNo) -> [bool; RULES]
+    requires { ⌜ (a .0 < t .count) × (b .0 < t .count) × (t .count ≤ capacity) × (length (now rf) ≡ t .count) ⌝ }
+    ensures { λ r. ⌜ r ≡ rules t (now (rf .entry)) (a .0) (b .0) ⌝ }
 {
     let x = t.events[a.0 as usize];
     let y = t.events[b.0 as usize];
+    let second = rule2(t, rf, a, b);
+    let third = rule3(rf, a, x, b, y);
+    let twelfth = rule12(t, rf, a, b);
     [
         rule1(x, y),
         second,
@@ -56,23 +50,6 @@ fn in_places(
         twelfth,
         rule13(t, a, b),
     ]
-}
-
-// Which of the thirteen hold, in their order.
-fn rules(t: Table, rf: &[u8], a: EventNo, b: EventNo) -> [bool; RULES]
-    requires { ⌜ (a .0 < t .count) × (b .0 < t .count) × (t .count ≤ capacity) × (length (now rf) ≡ t .count) ⌝ }
-    ensures { λ r. ⌜ r ≡ rules t (now (rf .entry)) (a .0) (b .0) ⌝ }
-{
-    let x = t.events[a.0 as usize];
-    let y = t.events[b.0 as usize];
-    in_places(
-        t,
-        a,
-        b,
-        rule2(t, rf, a, b),
-        rule3(rf, a, x, b, y),
-        rule12(t, rf, a, b),
-    )
 }
 
 // The set of the tests that hold: the first is bit 0.
@@ -106,13 +83,6 @@ pub fn lowest_rule(set: u16) -> u8
     u16::trailing_zeros(set) as u8 + 1
 }
 
-// "a is earlier on the same hart, both are memory events"
-fn may_order(a: EventNo, x: Event, b: EventNo, y: Event) -> bool
-    ensures { λ r. ⌜ r ≡ (ltb (a .0) (b .0) && eqb (x .hart) (y .hart) && memoryKind (x .kind) && memoryKind (y .kind)) ⌝ }
-{
-    table::program_order(a, x, b, y) & table::memory(x) & table::memory(y)
-}
-
 // Preserved program order puts a before b.
 pub fn ppo(t: Table, rf: &[u8], a: EventNo, b: EventNo) -> bool
     requires { ⌜ (a .0 < t .count) × (b .0 < t .count) × (t .count ≤ capacity) × (length (now rf) ≡ t .count) ⌝ }
@@ -120,18 +90,6 @@ pub fn ppo(t: Table, rf: &[u8], a: EventNo, b: EventNo) -> bool
 {
     if may_order(a, t.events[a.0 as usize], b, t.events[b.0 as usize]) {
         rule_set(t, rf, a, b) != 0
-    } else {
-        false
-    }
-}
-
-// The static part of it does: rules 2, 3 and 12 don't count.
-pub fn static_ppo(t: Table, a: EventNo, b: EventNo) -> bool
-    requires { ⌜ (a .0 < capacity) × (b .0 < capacity) × (t .count ≤ capacity) ⌝ }
-    ensures { λ r. ⌜ r ≡ staticPpo t (a .0) (b .0) ⌝ }
-{
-    if may_order(a, t.events[a.0 as usize], b, t.events[b.0 as usize]) {
-        set_mask(in_places(t, a, b, false, false, false)) != 0
     } else {
         false
     }

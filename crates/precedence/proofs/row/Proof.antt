@@ -3,7 +3,7 @@ use native.Mathlib.Omega.{arith}
 use borrow.Author.Needs.{needs}
 use Rattle.model.specs.Rules.{mayOrder, staticPpo}
 use Rattle.table.proofs.EventTests.{ofEvents}
-use Rattle.rules.proofs.RuleLaws.{static-left}
+use Rattle.static_rules.proofs.StaticLaws.{static-left}
 use Rattle.precedence.specs.Precedence.{predecessorMask}
 use Rattle.precedence.proofs.LoopLaws.{Gathered, gather-start, gather-take, gather-skip, gather-end}
 use Rattle.precedence.proofs.row.Statement.{statement}

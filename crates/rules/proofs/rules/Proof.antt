@@ -1,6 +1,6 @@
-use Rattle.model.specs.Rules.{rule3}
-use Rattle.rules.proofs.RuleLaws.{all-held}
+use Rattle.model.specs.Rules.{rule1, rule3, rule5, rule6, rule7, rule9, rule10, rule11}
 use Rattle.table.proofs.EventTests.{ofEvents}
+use Rattle.rules.proofs.RuleLaws.{held}
 use borrow.Author.Needs.{needs}
 use Rattle.rules.proofs.rules.Statement.{statement}
 use Rattle.rules.proofs.rules.Tie as tie
@@ -23,24 +23,62 @@ mul-y c = search needs
 element-copy-out-y : tie.Need-element-copy-out-y
 element-copy-out-y c = search needs
 
+rule1-requires : tie.Need-rule1-requires
+rule1-requires c κs = search needs
+
 rule2-requires : tie.Need-rule2-requires
 rule2-requires c κs = search needs
 
 rule3-requires : tie.Need-rule3-requires
 rule3-requires c κs = search needs
 
+rule4-requires : tie.Need-rule4-requires
+rule4-requires c κs = search needs
+
+rule5-requires : tie.Need-rule5-requires
+rule5-requires c κs = search needs
+
+rule6-requires : tie.Need-rule6-requires
+rule6-requires c κs = search needs
+
+rule7-requires : tie.Need-rule7-requires
+rule7-requires c κs = search needs
+
+rule8-requires : tie.Need-rule8-requires
+rule8-requires c κs = search needs
+
+rule9-requires : tie.Need-rule9-requires
+rule9-requires c κs = search needs
+
+rule10-requires : tie.Need-rule10-requires
+rule10-requires c κs = search needs
+
+rule11-requires : tie.Need-rule11-requires
+rule11-requires c κs = search needs
+
 rule12-requires : tie.Need-rule12-requires
 rule12-requires c κs = search needs
 
-in-places-requires : tie.Need-in-places-requires
-in-places-requires c κs = search needs
+rule13-requires : tie.Need-rule13-requires
+rule13-requires c κs = search needs
 
 returns : tie.Need-returns
-unfolding rule3 ofEvents
+unfolding rule1 rule3 rule5 rule6 rule7 rule9 rule10 rule11 ofEvents
 returns c =
-    let c12 = c .before in
+    let c11 = c .before in
+    let c10 = c11 .before in
+    let c9 = c10 .before in
+    let c8 = c9 .before in
+    let c7 = c8 .before in
+    let c6 = c7 .before in
+    let c5 = c6 .before in
+    let c4 = c5 .before in
+    let c1 = c4 .before in
+    let c12 = c1 .before in
     let c3 = c12 .before in
-    all-held _ _ _ _ (c3 .before .rule2 .ensures) (c3 .rule3 .ensures) (c12 .rule12 .ensures) (c .in-places .ensures)
+    held _ _ _ _ (c1 .rule1 .ensures) (c3 .before .rule2 .ensures) (c3 .rule3 .ensures) (c4 .rule4 .ensures) (c5 .rule5 .ensures)
+    (c6 .rule6 .ensures) (c7 .rule7 .ensures) (c8 .rule8 .ensures) (c9 .rule9 .ensures) (c10 .rule10 .ensures) (c11 .rule11 .ensures)
+    (c12 .rule12 .ensures) (c .rule13 .ensures)
 
 pub rules-spec : {M : Type 1} → statement M
 rules-spec =
@@ -55,5 +93,14 @@ rules-spec =
     rule2-requires
     rule3-requires
     rule12-requires
-    in-places-requires
+    rule1-requires
+    rule4-requires
+    rule5-requires
+    rule6-requires
+    rule7-requires
+    rule8-requires
+    rule9-requires
+    rule10-requires
+    rule11-requires
+    rule13-requires
     returns)

@@ -1,6 +1,6 @@
 use borrow.Author.Needs.{needs}
-use Rattle.rules.proofs.may_order.Statement.{statement}
-use Rattle.rules.proofs.may_order.Tie as tie
+use Rattle.static_rules.proofs.may_order.Statement.{statement}
+use Rattle.static_rules.proofs.may_order.Tie as tie
 
 program-order-requires : tie.Need-program-order-requires
 program-order-requires c κs = search needs
