@@ -1,6 +1,6 @@
 // The streams of calls that the test programs read: a tag, then what that call is given. And how its answer is printed.
 use console::Input;
-use refusals::Refusal;
+use console::Line;
 ghost use Prim.Native.Nat.{_≤_};
 
 // A call that lends the block of those after it.
@@ -48,34 +48,12 @@ pub fn allowance() -> u64 {
     a + WORDS * (b + WORDS * (c + WORDS * d))
 }
 
-// The first n bytes, as far as there are so many.
-pub fn front(bytes: &[u8], n: usize) -> &[u8] {
-    if n <= bytes.len() { &bytes[..n] } else { bytes }
-}
-
 // Begins the line of call k.
-pub fn begin(k: u64) {
-    console::number(k);
-    console::print(b": ");
-}
-
-// `None` is no refusal, and no entry says that it refuses by it.
-pub fn refused(r: Refusal) {
-    console::print(b"refused ");
-    match r {
-        Refusal::None => console::number(0),
-        Refusal::Line(n) => console::number(console::wide(n)),
-        Refusal::Record(n, k) => {
-            console::number(console::wide(n));
-            console::print(b", record ");
-            console::number(console::wide(k.0));
-        }
-    }
+pub fn begin(k: u64) -> Line {
+    Line::output().number(k).text(b": ")
 }
 
 // Ends the line of a call that was lent an answer buffer: the whole of it, as it now is.
-pub fn end(answer: &[u8]) {
-    console::print(b", buffer");
-    console::list(answer, answer.len());
-    console::print(b"\n");
+pub fn end(line: Line, answer: &[u8]) {
+    line.text(b", buffer").list(answer).end();
 }

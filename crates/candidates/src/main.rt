@@ -1,5 +1,6 @@
 // Reads a stream of candidates, and of orders whose returned lists are asked for, and prints a line for each.
 use console::Input;
+use console::Line;
 use edition::EventNo;
 use refusals::Refusal;
 use verdict::Axiom;
@@ -17,49 +18,33 @@ enum Effect {
     Called,
 }
 
-fn event(e: EventNo) {
-    console::spaced(console::wide(e.0));
+fn event(line: Line, e: EventNo) -> Line {
+    line.spaced(console::wide(e.0))
 }
 
-fn preserved_order(a: EventNo, b: EventNo, rule: u8) {
-    console::print(b"preserved order");
-    event(a);
-    event(b);
-    console::print(b" rule");
-    console::spaced(console::wide(rule));
+fn preserved_order(line: Line, a: EventNo, b: EventNo, rule: u8) -> Line {
+    let pair = event(event(line.text(b"preserved order"), a), b);
+    pair.text(b" rule").spaced(console::wide(rule))
 }
 
-fn axiom(broken: Axiom) {
+fn axiom(line: Line, broken: Axiom) -> Line {
     match broken {
-        Axiom::PreservedOrder(a, b, rule) => preserved_order(a, b, rule),
-        Axiom::LoadValue(reader) => {
-            console::print(b"load value");
-            event(reader);
-        }
-        Axiom::Atomicity(lr, writer) => {
-            console::print(b"atomicity");
-            event(lr);
-            event(writer);
-        }
-        Axiom::ValueRead(reader) => {
-            console::print(b"value read");
-            event(reader);
-        }
-        Axiom::FinalValue(location) => {
-            console::print(b"final value");
-            console::spaced(console::wide(location.0));
-        }
+        Axiom::PreservedOrder(a, b, rule) => preserved_order(line, a, b, rule),
+        Axiom::LoadValue(reader) => event(line.text(b"load value"), reader),
+        Axiom::Atomicity(lr, writer) => event(event(line.text(b"atomicity"), lr), writer),
+        Axiom::ValueRead(reader) => event(line.text(b"value read"), reader),
+        Axiom::FinalValue(x) => line.text(b"final value").spaced(console::wide(x.0)),
     }
 }
 
 fn verdict(k: u64, block: &[u8], returned: &[u8], order: &[u8]) {
-    calls::begin(k);
-    match bench::verdict(block, returned, order) {
-        Verdict::Refused(r) => calls::refused(r),
-        Verdict::Broken(broken) => axiom(broken),
-        Verdict::Allowed => console::print(b"allowed"),
-    }
-    console::print(b"\n");
+    let line = calls::begin(k);
+    let said = match bench::verdict(block, returned, order) {
+        Verdict::Refused(r) => words::refused(line, r),
+        Verdict::Broken(broken) => axiom(line, broken),
+        Verdict::Allowed => line.text(b"allowed"),
+    };
+    said.end();
 }
 
 fn read_verdict(k: u64, block: &[u8]) {
@@ -70,20 +55,20 @@ fn read_verdict(k: u64, block: &[u8]) {
     verdict(
         k,
         block,
-        calls::front(&returned, entries),
-        calls::front(&order, n),
+        console::front(&returned, entries),
+        console::front(&order, n),
     );
 }
 
 fn returns(k: u64, block: &[u8], order: &[u8], answer: &mut [u8]) {
-    calls::begin(k);
+    let line = calls::begin(k);
     let refusal = bench::returns(block, order, answer);
-    match refusal {
-        Refusal::None => console::print(b"written"),
-        Refusal::Line(_) => calls::refused(refusal),
-        Refusal::Record(_, _) => calls::refused(refusal),
-    }
-    calls::end(answer);
+    let said = match refusal {
+        Refusal::None => line.text(b"written"),
+        Refusal::Line(_) => words::refused(line, refusal),
+        Refusal::Record(_, _) => words::refused(line, refusal),
+    };
+    calls::end(said, answer);
 }
 
 fn read_returns(k: u64, block: &[u8]) {
@@ -91,14 +76,14 @@ fn read_returns(k: u64, block: &[u8]) {
     let n = calls::list(&mut order);
     let mut answer = [calls::PREFILL; calls::LIST];
     let size = calls::length();
-    returns(k, block, calls::front(&order, n), &mut answer[..size]);
+    returns(k, block, console::front(&order, n), &mut answer[..size]);
 }
 
 fn call(tag: u8, k: u64, block: &mut [u8], size: usize) -> Effect {
     if tag == calls::LEND {
         return Effect::Lent(calls::block(block));
     }
-    let bytes = calls::front(block, size);
+    let bytes = console::front(block, size);
     if tag == VERDICT {
         read_verdict(k, bytes);
         return Effect::Called;

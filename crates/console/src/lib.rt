@@ -1,28 +1,17 @@
 // Reading standard input and printing, for the programs.
+mod line;
+mod rows;
+
 use libc::STDIN_FILENO;
 use libc::STDOUT_FILENO;
+pub use line::Line;
+pub use rows::row;
 ghost use Prim.Native.Nat.{_≤_};
+ghost use mathlib.Core.Path.{_≡_};
+ghost use lib.ListN.{take, drop};
 
 pub fn print(text: &[u8]) {
     io::write_all(STDOUT_FILENO, text);
-}
-
-pub fn number(n: u64) {
-    io::print_decimal(STDOUT_FILENO, n);
-}
-
-pub fn spaced(n: u64) {
-    print(b" ");
-    number(n);
-}
-
-// A space and each of the first n bytes.
-pub fn list(bytes: &[u8], n: usize) {
-    let mut i: usize = 0;
-    while i < n && i < bytes.len() {
-        spaced(wide(bytes[i]));
-        i += 1;
-    }
 }
 
 pub fn wide(x: u8) -> u64 {
@@ -35,6 +24,24 @@ pub fn read(buffer: &mut [u8], n: usize) -> usize {
         io::read_full(STDIN_FILENO, &mut buffer[..n])
     } else {
         io::read_full(STDIN_FILENO, buffer)
+    }
+}
+
+// The first n bytes, as far as there are so many.
+pub fn front(bytes: &[u8], n: usize) -> &[u8]
+    ensures { λ r. ⌜ now r ≡ take n (now (bytes .entry)) ⌝ }
+{
+    if n <= bytes.len() { &bytes[..n] } else { bytes }
+}
+
+// What stands past the first n bytes.
+pub fn past(bytes: &[u8], n: usize) -> &[u8]
+    ensures { λ r. ⌜ now r ≡ drop n (now (bytes .entry)) ⌝ }
+{
+    if n <= bytes.len() {
+        &bytes[n..]
+    } else {
+        &bytes[..0]
     }
 }
 

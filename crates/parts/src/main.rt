@@ -1,24 +1,26 @@
 // Reads a suite of up to 4,096 bytes and prints what part is handed back as each block, and as some that it lacks.
+use console::Line;
+
 fn part(suite: &[u8], k: usize) {
     let bytes = suite_part::block(suite, k);
-    console::number(k as u64);
+    let begun = Line::output().number(k as u64);
     if bytes.len() == 0 {
-        console::print(b": not in the suite\n");
+        begun.text(b": not in the suite").end();
         return;
     }
-    console::print(b": ");
-    console::number(bytes.len() as u64);
-    console::print(b" bytes, from");
-    console::spaced(console::wide(bytes[0]));
-    console::print(b" to");
-    console::spaced(console::wide(bytes[bytes.len() - 1]));
-    console::print(b"\n");
+    begun
+        .text(b": ")
+        .number(bytes.len() as u64)
+        .text(b" bytes, from")
+        .spaced(console::wide(bytes[0]))
+        .text(b" to")
+        .spaced(console::wide(bytes[bytes.len() - 1]))
+        .end();
 }
 
 fn parts(suite: &[u8]) {
     let n = suite_part::blocks(suite);
-    console::number(n as u64);
-    console::print(b" blocks\n");
+    Line::output().number(n as u64).text(b" blocks").end();
     let mut k: usize = 0;
     while k < 8 {
         part(suite, k);
@@ -31,9 +33,7 @@ fn parts(suite: &[u8]) {
 
 fn suite(buffer: &mut [u8]) {
     let n = console::read(buffer, 4096);
-    if n <= buffer.len() {
-        parts(&buffer[..n]);
-    }
+    parts(console::front(buffer, n));
 }
 
 fn main() {

@@ -1,87 +1,80 @@
 // Reads a stream of frames (a length of two bytes, then that many bytes) and prints what reading each gives.
 use console::Input;
+use console::Line;
 use refusals::Refusal;
 use table::Event;
 use table::Table;
 
 const LOCATIONS: usize = 8;
 
-fn values(list: [u16; 8]) {
-    console::print(b" /");
+fn value(line: Line, v: u16) -> Line {
+    line.text(b" ").value(v)
+}
+
+fn values(line: Line, list: [u16; 8]) -> Line {
+    let mut filled = line.text(b" /");
     let mut x: usize = 0;
     while x < LOCATIONS {
-        console::spaced(wide(list[x]));
+        filled = value(filled, list[x]);
         x += 1;
     }
+    filled
 }
 
-fn wide(x: u16) -> u64 {
-    x as u64
+fn dependencies(line: Line, e: Event) -> Line {
+    line.spaced(e.addr as u64)
+        .spaced(e.data as u64)
+        .spaced(e.ctrl as u64)
 }
 
-fn event(e: Event) {
-    console::print(b" /");
-    console::spaced(e.kind as u64);
-    console::spaced(e.hart as u64);
-    console::spaced(e.location.0 as u64);
-    console::spaced(e.flags as u64);
-    console::spaced(e.addr as u64);
-    console::spaced(e.data as u64);
-    console::spaced(e.ctrl as u64);
-    console::spaced(e.read as u64);
-    console::spaced(e.written as u64);
+fn event(line: Line, e: Event) -> Line {
+    let access = line.text(b" /")
+        .spaced(e.kind as u64)
+        .spaced(e.hart as u64)
+        .spaced(e.location.0 as u64)
+        .spaced(e.flags as u64);
+    value(value(dependencies(access, e), e.read), e.written)
 }
 
-fn events(t: Table) {
+fn events(line: Line, t: Table) -> Line {
+    let mut filled = line;
     let mut k: usize = 0;
     while k < t.count as usize && k < table::CAPACITY {
-        event(t.events[k]);
+        filled = event(filled, t.events[k]);
         k += 1;
     }
+    filled
 }
 
-fn fields(t: Table) {
+fn fields(line: Line, t: Table) -> Line {
     let initial = t.initial;
     let finals = t.finals;
-    console::print(b"table");
-    console::spaced(t.harts as u64);
-    console::spaced(t.locations as u64);
-    console::spaced(t.count as u64);
-    console::spaced(t.stated as u64);
-    values(initial);
-    values(finals);
-    events(t);
+    let header = line.text(b"table")
+        .spaced(t.harts as u64)
+        .spaced(t.locations as u64)
+        .spaced(t.count as u64)
+        .spaced(t.stated as u64);
+    events(values(values(header, initial), finals), t)
 }
 
-fn refused(n: u8) {
-    console::print(b"refused ");
-    console::number(n as u64);
-}
-
-fn line(s: &[u8]) {
+// What reading frame k gives.
+fn line(k: u64, s: &[u8]) {
+    let begun = calls::begin(k);
     let reading = block::read(s);
     let refusal = reading.refusal;
     let t = reading.table;
-    match refusal {
-        Refusal::None => fields(t),
-        Refusal::Line(n) => refused(n),
-        Refusal::Record(n, k) => {
-            refused(n);
-            console::print(b", record ");
-            console::number(k.0 as u64);
-        }
-    }
-    console::print(b"\n");
+    let said = match refusal {
+        Refusal::None => fields(begun, t),
+        Refusal::Line(_) => words::refused(begun, refusal),
+        Refusal::Record(_, _) => words::refused(begun, refusal),
+    };
+    said.end();
 }
 
-// The next n bytes of the input, which are frame k.
+// The next n bytes of the input are frame k.
 fn frame(k: u64, n: usize, buffer: &mut [u8]) {
     let got = console::read(buffer, n);
-    console::number(k);
-    console::print(b": ");
-    if got <= buffer.len() {
-        line(&buffer[..got]);
-    }
+    line(k, console::front(buffer, got));
 }
 
 // One frame; false at the end of the input.
@@ -91,7 +84,7 @@ fn turn(k: u64) -> bool {
         Input::End => false,
         Input::Byte(b) => {
             let n = console::wide(b) % 256 + 256 * (console::byte_or_zero() % 256);
-            let mut buffer = [0u8; 2048];
+            let mut buffer = [0u8; calls::BLOCK];
             frame(k, n as usize, &mut buffer);
             true
         }

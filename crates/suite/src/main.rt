@@ -1,7 +1,7 @@
 // The suite program: for each block of standard input, one line as soon as its search is done; and how many blocks there were.
+use console::Line;
 use edition::EditionOne;
 use libc::STDIN_FILENO;
-use refusals::Refusal;
 use search::Outcome;
 use search::Reply;
 
@@ -11,59 +11,32 @@ const ALLOWANCE: u64 = 1_000_000;
 // The answer buffer's length: no order is longer.
 const ANSWER: usize = 32;
 
-fn refusal_number(r: Refusal) -> u8 {
-    match r {
-        Refusal::None => 0,
-        Refusal::Line(n) => n,
-        Refusal::Record(n, _) => n,
-    }
+fn visited(line: Line, n: u64) -> Line {
+    line.number(n).text(b" visited")
 }
 
-fn refused(r: Refusal) {
-    console::print(b"refused ");
-    console::number(console::wide(refusal_number(r)));
-}
-
-fn visited(n: u64) {
-    console::number(n);
-    console::print(b" visited");
-}
-
-fn allowed(n: u64, order: &[u8], len: usize) {
-    console::print(b"allowed, ");
-    visited(n);
-    console::print(b", order");
-    console::list(order, len);
-}
-
-fn outcome(o: Outcome, answer: &[u8]) {
+fn outcome(line: Line, o: Outcome, answer: &[u8]) -> Line {
     match o {
-        Outcome::Found { len, visited: n } => allowed(n, answer, len),
-        Outcome::NoneLeft { visited: n } => {
-            console::print(b"forbidden, ");
-            visited(n);
-        }
-        Outcome::Spent { len: _, visited: n } => {
-            console::print(b"undecided, ");
-            visited(n);
-        }
+        Outcome::Found { len, visited: n } => visited(line.text(b"allowed, "), n)
+            .text(b", order")
+            .list(console::front(answer, len)),
+        Outcome::NoneLeft { visited: n } => visited(line.text(b"forbidden, "), n),
+        Outcome::Spent { len: _, visited: n } => visited(line.text(b"undecided, "), n),
     }
 }
 
-fn search(bytes: &[u8]) {
+fn search(line: Line, bytes: &[u8]) -> Line {
     let mut answer = [0u8; ANSWER];
     match bench::search(bytes, b"", &mut answer, ALLOWANCE) {
-        Reply::Refused(r) => refused(r),
-        Reply::Answered(o) => outcome(o, &answer),
+        Reply::Refused(r) => line.text(b"refused ")
+            .number(console::wide(words::number(r))),
+        Reply::Answered(o) => outcome(line, o, &answer),
     }
 }
 
 fn line(k: u64, bytes: &[u8]) {
-    console::print(b"block ");
-    console::number(k);
-    console::print(b": ");
-    search(bytes);
-    console::print(b"\n");
+    let begun = Line::output().text(b"block ").number(k).text(b": ");
+    search(begun, bytes).end();
 }
 
 // Block k, whole or a last part; false at the end of the input.
@@ -87,6 +60,6 @@ fn blocks() -> u64 {
 }
 
 fn main() {
-    console::number(blocks());
-    console::print(b" blocks\n");
+    let k = blocks();
+    Line::output().number(k).text(b" blocks").end();
 }

@@ -1,5 +1,6 @@
 // Reads a stream of search calls, single ones and those of walks, and prints a line for each.
 use console::Input;
+use console::Line;
 use search::Outcome;
 use search::Reply;
 
@@ -15,41 +16,29 @@ enum Effect {
     Called(usize),
 }
 
-fn visited(n: u64) {
-    console::number(n);
-    console::print(b" visited");
+fn visited(line: Line, n: u64) -> Line {
+    line.number(n).text(b" visited")
 }
 
-fn prefix(n: u64, len: usize) {
-    visited(n);
-    console::print(b", length ");
-    console::number(len as u64);
+fn prefix(line: Line, n: u64, len: usize) -> Line {
+    visited(line, n).text(b", length ").number(len as u64)
 }
 
-fn outcome(o: Outcome) {
+fn outcome(line: Line, o: Outcome) -> Line {
     match o {
-        Outcome::Found { len, visited: n } => {
-            console::print(b"found, ");
-            prefix(n, len);
-        }
-        Outcome::NoneLeft { visited: n } => {
-            console::print(b"none left, ");
-            visited(n);
-        }
-        Outcome::Spent { len, visited: n } => {
-            console::print(b"spent, ");
-            prefix(n, len);
-        }
+        Outcome::Found { len, visited: n } => prefix(line.text(b"found, "), n, len),
+        Outcome::NoneLeft { visited: n } => visited(line.text(b"none left, "), n),
+        Outcome::Spent { len, visited: n } => prefix(line.text(b"spent, "), n, len),
     }
 }
 
 fn line(k: u64, reply: Reply, answer: &[u8]) {
-    calls::begin(k);
-    match reply {
-        Reply::Refused(r) => calls::refused(r),
-        Reply::Answered(o) => outcome(o),
-    }
-    calls::end(answer);
+    let begun = calls::begin(k);
+    let said = match reply {
+        Reply::Refused(r) => words::refused(begun, r),
+        Reply::Answered(o) => outcome(begun, o),
+    };
+    calls::end(said, answer);
 }
 
 fn search(k: u64, block: &[u8], start: &[u8], answer: &mut [u8]) -> Reply {
@@ -64,7 +53,7 @@ fn single(k: u64, block: &[u8]) {
     let n = calls::list(&mut start);
     let mut answer = [calls::PREFILL; calls::LIST];
     let size = calls::length();
-    search(k, block, calls::front(&start, n), &mut answer[..size]);
+    search(k, block, console::front(&start, n), &mut answer[..size]);
 }
 
 fn copy(from: &[u8], n: usize, to: &mut [u8]) {
@@ -77,7 +66,7 @@ fn copy(from: &[u8], n: usize, to: &mut [u8]) {
 
 // The next call of the walk. Makes its next start: what was written, or the start again. Answers that one's length.
 fn advance(k: u64, block: &[u8], start: &mut [u8], len: usize, answer: &mut [u8]) -> usize {
-    match search(k, block, calls::front(start, len), answer) {
+    match search(k, block, console::front(start, len), answer) {
         Reply::Refused(_) => len,
         Reply::Answered(o) => match o {
             Outcome::NoneLeft { visited: _ } => len,
@@ -103,7 +92,7 @@ fn call(tag: u8, k: u64, block: &mut [u8], size: usize, start: &mut [u8], len: u
     if tag == calls::LEND {
         return Effect::Lent(calls::block(block));
     }
-    let bytes = calls::front(block, size);
+    let bytes = console::front(block, size);
     if tag == SEARCH {
         single(k, bytes);
         return Effect::Called(len);

@@ -12,14 +12,20 @@ abbrev μ-loop : tie.MeasureT-loop
 blocks-requires : tie.Need-blocks-requires Inv-loop μ-loop
 blocks-requires c κs = search needs
 
+output-requires : tie.Need-output-requires Inv-loop μ-loop
+output-requires c κs = search needs
+
 number-requires : tie.Need-number-requires Inv-loop μ-loop
 number-requires c κs = search needs
 
-slice-aggregate-print : tie.Need-slice-aggregate-print Inv-loop μ-loop
-slice-aggregate-print c = search needs
+slice-aggregate-text : tie.Need-slice-aggregate-text Inv-loop μ-loop
+slice-aggregate-text c = search needs
 
-print-requires : tie.Need-print-requires Inv-loop μ-loop
-print-requires c κs = search needs
+text-requires : tie.Need-text-requires Inv-loop μ-loop
+text-requires c κs = search needs
+
+end-requires : tie.Need-end-requires Inv-loop μ-loop
+end-requires c κs = search needs
 
 loop-holds : tie.Need-loop-holds Inv-loop μ-loop
 loop-holds c = search needs
@@ -58,9 +64,11 @@ parts-spec =
     Inv-loop
     μ-loop
     blocks-requires
+    output-requires
     number-requires
-    slice-aggregate-print
-    print-requires
+    slice-aggregate-text
+    text-requires
+    end-requires
     loop-holds
     part-requires
     add-k

@@ -1,13 +1,13 @@
-use Prim.Native.Nat.{_-_, _^_}
+use Prim.Native.Nat.{_-_}
 use borrow.Author.Needs.{needs}
 use Rattle.readings.proofs.events.Statement.{statement}
 use Rattle.readings.proofs.events.Tie as tie
 
 abbrev Inv-loop : tie.InvT-loop
-Inv-loop t k₀ k = Unit {0}
+Inv-loop t filled₀ k₀ filled k = Unit {0}
 
 abbrev μ-loop : tie.MeasureT-loop
-μ-loop t k₀ k = t .count - k
+μ-loop t filled₀ k₀ filled k = t .count - k
 
 loop-holds : tie.Need-loop-holds Inv-loop μ-loop
 loop-holds c = search needs

@@ -1,34 +1,31 @@
-use Prim.Native.Nat.{_-_, _^_}
+use Prim.Native.Nat.{_-_}
 use borrow.Author.Needs.{needs}
 use Rattle.readings.proofs.values.Statement.{statement}
 use Rattle.readings.proofs.values.Tie as tie
 
 abbrev Inv-loop : tie.InvT-loop
-Inv-loop list x₀ x = Unit {0}
+Inv-loop list filled₀ x₀ filled x = Unit {0}
 
 abbrev μ-loop : tie.MeasureT-loop
-μ-loop list x₀ x = 8 - x
+μ-loop list filled₀ x₀ filled x = 8 - x
 
-slice-aggregate-print : tie.Need-slice-aggregate-print Inv-loop μ-loop
-slice-aggregate-print c = search needs
+slice-aggregate-text : tie.Need-slice-aggregate-text Inv-loop μ-loop
+slice-aggregate-text c = search needs
 
-print-requires : tie.Need-print-requires Inv-loop μ-loop
-print-requires c κs = search needs
+text-requires : tie.Need-text-requires Inv-loop μ-loop
+text-requires c κs = search needs
 
 loop-holds : tie.Need-loop-holds Inv-loop μ-loop
 loop-holds c = search needs
 
-mul-wide : tie.Need-mul-wide Inv-loop μ-loop
-mul-wide c = search needs
+mul-value : tie.Need-mul-value Inv-loop μ-loop
+mul-value c = search needs
 
-array-read-wide : tie.Need-array-read-wide Inv-loop μ-loop
-array-read-wide c = search needs
+array-read-value : tie.Need-array-read-value Inv-loop μ-loop
+array-read-value c = search needs
 
-wide-requires : tie.Need-wide-requires Inv-loop μ-loop
-wide-requires c κs = search needs
-
-spaced-requires : tie.Need-spaced-requires Inv-loop μ-loop
-spaced-requires c κs = search needs
+value-requires : tie.Need-value-requires Inv-loop μ-loop
+value-requires c κs = search needs
 
 add-x : tie.Need-add-x Inv-loop μ-loop
 add-x c = search needs
@@ -48,13 +45,12 @@ values-spec =
     (tie.spec
     Inv-loop
     μ-loop
-    slice-aggregate-print
-    print-requires
+    slice-aggregate-text
+    text-requires
     loop-holds
-    mul-wide
-    array-read-wide
-    wide-requires
-    spaced-requires
+    mul-value
+    array-read-value
+    value-requires
     add-x
     loop-less
     loop-again

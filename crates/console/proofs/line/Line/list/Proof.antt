@@ -1,13 +1,14 @@
 use Prim.Native.Nat.{_-_}
+use lib.ListN.{length}
 use borrow.Author.Needs.{needs}
-use Rattle.console.proofs.list.Statement.{statement}
-use Rattle.console.proofs.list.Tie as tie
+use Rattle.console.proofs.line.Line.list.Statement.{statement}
+use Rattle.console.proofs.line.Line.list.Tie as tie
 
 abbrev Inv-loop : tie.InvT-loop
-Inv-loop bytes n i₀ i = Unit {0}
+Inv-loop bytes line₀ i₀ line i = Unit {0}
 
 abbrev μ-loop : tie.MeasureT-loop
-μ-loop bytes n i₀ i = n - i
+μ-loop bytes line₀ i₀ line i = length bytes - i
 
 loop-holds : tie.Need-loop-holds Inv-loop μ-loop
 loop-holds c = search needs
@@ -33,9 +34,6 @@ loop-again c = search needs
 returns : tie.Need-returns Inv-loop μ-loop
 returns c = search needs
 
-returns-2 : tie.Need-returns-2 Inv-loop μ-loop
-returns-2 c = search needs
-
 pub list-spec : {M : Type 1} → statement M
 list-spec =
     tie.close
@@ -49,5 +47,4 @@ list-spec =
     add-i
     loop-less
     loop-again
-    returns
-    returns-2)
+    returns)

@@ -1,0 +1,23 @@
+-- A line that is put together before it is written.
+use Prim.Native.Nat.{ℕ, _+_, _≤_}
+use mathlib.Core.List.{List, _++_}
+use mathlib.Core.Path.{_≡_}
+use lib.ListN.{length, take}
+use Rattle.io.specs.Digits.{digits, Fewest}
+use Rattle.console.specs.declared.line.Line.{Line}
+
+-- How many bytes are kept.
+abbrev pub room : ℕ
+room = 256
+
+-- What is kept of a line.
+abbrev pub kept : Line → List ℕ
+kept l = take (l .len) (l .bytes)
+
+-- r is the line l and then the text, where there is room for both.
+abbrev pub AddsTo : Line → List ℕ → Line → Type 0
+AddsTo l text r = l .len + length text ≤ room → kept r ≡ kept l ++ text
+
+-- r is the line l and then n in decimal, with no more digits than it takes.
+abbrev pub AddsNumber : Line → ℕ → Line → Type 0
+AddsNumber l n r = (k : ℕ) × Fewest 10 1 n k × AddsTo l (digits 10 k n) r
