@@ -1,0 +1,207 @@
+// The verdict for one candidate of standard input, in words.
+use console::Line;
+use edition::EditionOne;
+use edition::EventNo;
+use edition::LocationNo;
+use libc::STDIN_FILENO;
+use table::Event;
+use table::Table;
+use verdict::Axiom;
+use verdict::Verdict;
+use verdict::returns::INITIALLY;
+use verdict::returns::NOTHING;
+
+// Longer than a candidate, so that one that is too long is refused.
+const INPUT: usize = 1024;
+
+// No returned list is longer.
+const LIST: usize = 32;
+
+fn usage() {
+    console::print(
+        b"\
+explain: the verdict of the RISC-V memory model for one candidate, in words
+
+    explain <CANDIDATE
+
+CANDIDATE is, one after the other:
+  the block            512 bytes, a test with its stated outcome
+  the returned list    a byte for each event: the event whose write a reader returns from, 255 for the initial value,
+                       and 254 for an event that doesn't read
+  the order            a byte for each memory event: the global memory order, by event numbers
+
+The answer is 'allowed', or the first of preserved order, load value, atomicity, value read and final value that the
+candidate breaks, with its place; or the refusal of what was handed in.
+",
+    );
+}
+
+fn event(line: Line, e: EventNo) -> Line {
+    line.text(b"event ").number(console::wide(e.0))
+}
+
+// What a reader returns from.
+fn source(line: Line, w: u8) -> Line {
+    if w == INITIALLY {
+        line.text(b"the initial value")
+    } else {
+        event(line, EventNo(w))
+    }
+}
+
+// The entry of event e in a returned list.
+fn entry(list: &[u8], e: EventNo) -> u8 {
+    if (e.0 as usize) < list.len() {
+        list[e.0 as usize]
+    } else {
+        NOTHING
+    }
+}
+
+fn kind(line: Line, k: u8) -> Line {
+    let table = b"
+load
+store
+AMO
+LR
+SC
+";
+    line.text(console::row(table, k))
+}
+
+fn values(line: Line, e: Event) -> Line {
+    let read = if table::reads(e) {
+        line.text(b", reads ").value(e.read)
+    } else {
+        line
+    };
+    if table::writes(e) {
+        read.text(b", writes ").value(e.written)
+    } else {
+        read
+    }
+}
+
+// A line that says what event k is.
+fn describe(t: Table, k: EventNo) {
+    if (k.0 as usize) < table::CAPACITY {
+        let e = t.events[k.0 as usize];
+        let begun = event(Line::output().text(b"  "), k)
+            .text(b": hart ")
+            .number(console::wide(e.hart))
+            .text(b", ");
+        let placed = kind(begun, e.kind).text(b" at location ")
+            .number(console::wide(e.location.0));
+        values(placed, e).end();
+    }
+}
+
+fn preserved_order(t: Table, a: EventNo, b: EventNo, rule: u8) {
+    let first = event(Line::output().text(b"preserved order: "), a).text(b" before ");
+    let pair = event(first, b)
+        .text(b" by rule ")
+        .number(console::wide(rule))
+        .text(b" (");
+    words::rule(pair, rule)
+        .text(b"), but the order has ")
+        .number(console::wide(b.0))
+        .text(b" first")
+        .end();
+    describe(t, a);
+    describe(t, b);
+}
+
+fn load_value(t: Table, block: &[u8], returned: &[u8], order: &[u8], r: EventNo) {
+    let mut list = [NOTHING; LIST];
+    bench::returns(block, order, &mut list);
+    let reader = event(Line::output().text(b"load value: "), r).text(b" returns from ");
+    let given = source(reader, entry(returned, r)).text(b", but the order makes it return from ");
+    source(given, entry(&list, r)).end();
+    describe(t, r);
+}
+
+// The other case of the axiom, that what the LR returns from doesn't precede the SC, can't come up once preserved order and
+// load value hold.
+fn atomicity(t: Table, returned: &[u8], lr: EventNo, w: EventNo) {
+    let reader = Line::output()
+        .text(b"atomicity: LR ")
+        .number(console::wide(lr.0))
+        .text(b" returns from ");
+    let between = source(reader, entry(returned, lr)).text(b", but ");
+    event(between, w)
+        .text(b" of another hart writes between that and its SC")
+        .end();
+    describe(t, lr);
+    describe(t, w);
+}
+
+fn value_read(t: Table, returned: &[u8], r: EventNo) {
+    if (r.0 as usize) < table::CAPACITY {
+        let e = t.events[r.0 as usize];
+        let w = entry(returned, r);
+        let value = verdict::returns::written_value(t, e.location, w);
+        let reader = event(Line::output().text(b"value read: "), r)
+            .text(b" is stated to read ")
+            .value(e.read)
+            .text(b", but returns ")
+            .value(value)
+            .text(b" from ");
+        source(reader, w).end();
+        describe(t, r);
+    }
+}
+
+fn final_value(t: Table, order: &[u8], x: LocationNo) {
+    if (x.0 as usize) < EditionOne::LOCATIONS {
+        let stated = t.finals[x.0 as usize];
+        let value = verdict::returns::final_value(t, order, x);
+        Line::output()
+            .text(b"final value: location ")
+            .number(console::wide(x.0))
+            .text(b" is stated to end at ")
+            .value(stated)
+            .text(b", but the order leaves ")
+            .value(value)
+            .end();
+    }
+}
+
+fn broken(axiom: Axiom, t: Table, block: &[u8], returned: &[u8], order: &[u8]) {
+    match axiom {
+        Axiom::PreservedOrder(a, b, rule) => preserved_order(t, a, b, rule),
+        Axiom::LoadValue(r) => load_value(t, block, returned, order, r),
+        Axiom::Atomicity(lr, w) => atomicity(t, returned, lr, w),
+        Axiom::ValueRead(r) => value_read(t, returned, r),
+        Axiom::FinalValue(x) => final_value(t, order, x),
+    }
+}
+
+fn explain(t: Table, block: &[u8], returned: &[u8], order: &[u8]) {
+    match bench::verdict(block, returned, order) {
+        Verdict::Refused(r) => words::explained(Line::output(), r).end(),
+        Verdict::Broken(axiom) => broken(axiom, t, block, returned, order),
+        Verdict::Allowed => Line::output()
+            .text(b"allowed: the order gives the stated outcome and breaks no rule")
+            .end(),
+    }
+}
+
+// The returned list has an entry for each event of the block, and what follows is the order. A block that is refused has
+// no event, and its refusal comes before those of the lists.
+fn candidate(input: &[u8]) {
+    let block = console::front(input, EditionOne::BLOCK);
+    let lists = console::past(input, EditionOne::BLOCK);
+    let t = bench::read(block).table;
+    let n = t.count as usize;
+    explain(t, block, console::front(lists, n), console::past(lists, n));
+}
+
+fn main() {
+    let mut buffer = [0u8; INPUT];
+    let n = io::read_full(STDIN_FILENO, &mut buffer);
+    if n == 0 {
+        usage();
+    } else {
+        candidate(&buffer[..n]);
+    }
+}

@@ -1,0 +1,173 @@
+// Walks all witnesses of one block of standard input: a line each, and their number at the end.
+use console::Line;
+use libc::STDIN_FILENO;
+use search::Outcome;
+use search::Reply;
+
+// How many prefixes a call may visit. A progress line is written when they are spent.
+const ALLOWANCE: u64 = 1_000_000;
+
+// Longer than a block, so that input that is too long is refused.
+const INPUT: usize = 1024;
+
+// No order and no returned list is longer.
+const LIST: usize = 32;
+
+// Where a walk is: the prefix that its next call starts from, and how many witnesses and prefixes there were. It has ended
+// when a call said that none are left, or refused.
+struct Walk {
+    prefix: [u8; LIST],
+    len: usize,
+    witnesses: u64,
+    visited: u64,
+    ended: bool,
+}
+
+fn usage() {
+    console::print(
+        b"\
+witnesses: all global memory orders that give the stated outcome of a test
+
+    witnesses <BLOCK
+
+BLOCK is one test, a block of 512 bytes. Each witness gets a line, in ascending order: its events by their numbers, and
+the event that each reader reads from, or 'initial' for the initial value. The last line has the number of witnesses and
+that of the prefixes visited. During long walks lines on standard error say how far the walk is.
+",
+    );
+}
+
+// No walk gets to the bound.
+fn sum(a: u64, b: u64) -> u64 {
+    if b <= u64::MAX - a { a + b } else { u64::MAX }
+}
+
+// Reader e returns from event w, or from the initial value.
+fn from(line: Line, e: usize, w: u8) -> Line {
+    let begun = line.text(b"; ").number(e as u64).text(b" reads from ");
+    if w == verdict::returns::INITIALLY {
+        begun.text(b"initial")
+    } else {
+        begun.number(console::wide(w))
+    }
+}
+
+fn returned(line: Line, list: [u8; LIST]) -> Line {
+    let mut filled = line;
+    let mut e: usize = 0;
+    while e < LIST {
+        if list[e] != verdict::returns::NOTHING {
+            filled = from(filled, e, list[e]);
+        }
+        e += 1;
+    }
+    filled
+}
+
+fn witness(block: &[u8], walk: Walk) {
+    let prefix = walk.prefix;
+    let order = console::front(&prefix, walk.len);
+    let mut list = [verdict::returns::NOTHING; LIST];
+    bench::returns(block, order, &mut list);
+    let begun = Line::output()
+        .text(b"witness ")
+        .number(walk.witnesses)
+        .text(b": order")
+        .list(order);
+    returned(begun, list).end();
+}
+
+fn progress(walk: Walk) {
+    let prefix = walk.prefix;
+    let entries = console::front(&prefix, walk.len);
+    Line::error()
+        .number(walk.visited)
+        .text(b" visited, ")
+        .number(walk.witnesses)
+        .text(b" witnesses so far, at prefix")
+        .list(entries)
+        .end();
+}
+
+fn last(walk: Walk) {
+    let begun = if walk.witnesses == 0 {
+        Line::output().text(b"no witness: forbidden")
+    } else if walk.witnesses == 1 {
+        Line::output().text(b"1 witness")
+    } else {
+        Line::output().number(walk.witnesses).text(b" witnesses")
+    };
+    begun
+        .text(b", ")
+        .number(walk.visited)
+        .text(b" visited")
+        .end();
+}
+
+// What the walk is after a call that answered; and its line.
+fn answered(block: &[u8], walk: Walk, outcome: Outcome, answer: [u8; LIST]) -> Walk {
+    let mut next = walk;
+    match outcome {
+        Outcome::Found { len, visited } => {
+            next.prefix = answer;
+            next.len = len;
+            next.witnesses = sum(walk.witnesses, 1);
+            next.visited = sum(walk.visited, visited);
+            witness(block, next);
+        }
+        Outcome::NoneLeft { visited } => {
+            next.visited = sum(walk.visited, visited);
+            next.ended = true;
+            last(next);
+        }
+        Outcome::Spent { len, visited } => {
+            next.prefix = answer;
+            next.len = len;
+            next.visited = sum(walk.visited, visited);
+            progress(next);
+        }
+    }
+    next
+}
+
+// The next call of the walk.
+fn call(block: &[u8], walk: Walk) -> Walk {
+    let start = walk.prefix;
+    let len = walk.len;
+    let mut answer = [0u8; LIST];
+    match bench::search(block, console::front(&start, len), &mut answer, ALLOWANCE) {
+        Reply::Refused(r) => {
+            words::explained(Line::output(), r).end();
+            let mut ended = walk;
+            ended.ended = true;
+            ended
+        }
+        Reply::Answered(o) => answered(block, walk, o, answer),
+    }
+}
+
+// The bound makes the loop end for the proof.
+fn walk_all(block: &[u8]) {
+    let mut walk = Walk {
+        prefix: [0; LIST],
+        len: 0,
+        witnesses: 0,
+        visited: 0,
+        ended: false,
+    };
+    let mut calls: u64 = 0;
+    while calls < u64::MAX && !walk.ended {
+        walk = call(block, walk);
+        calls += 1;
+    }
+}
+
+fn main() {
+    let mut buffer = [0u8; INPUT];
+    let n = io::read_full(STDIN_FILENO, &mut buffer);
+    if n == 0 {
+        usage();
+    } else {
+        walk_all(&buffer[..n]);
+    }
+}
