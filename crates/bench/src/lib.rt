@@ -59,7 +59,7 @@ fn determine(t: Table, order: &[u8], out: &mut [u8]) -> Refusal
     if out.len() < t.count as usize {
         return Refusal::Line(16);
     }
-    verdict::determine(t, order, out);
+    returns::determine(t, order, out);
     Refusal::None
 }
 

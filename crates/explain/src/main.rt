@@ -8,8 +8,8 @@ use table::Event;
 use table::Table;
 use verdict::Axiom;
 use verdict::Verdict;
-use verdict::returns::INITIALLY;
-use verdict::returns::NOTHING;
+use reads_from::INITIALLY;
+use reads_from::NOTHING;
 
 // Longer than a candidate, so that one that is too long is refused.
 const INPUT: usize = 1024;
@@ -139,7 +139,7 @@ fn value_read(t: Table, returned: &[u8], r: EventNo) {
     if (r.0 as usize) < table::CAPACITY {
         let e = t.events[r.0 as usize];
         let w = entry(returned, r);
-        let value = verdict::returns::written_value(t, e.location, w);
+        let value = returns::written_value(t, e.location, w);
         let reader = event(Line::output().text(b"value read: "), r)
             .text(b" is stated to read ")
             .value(e.read)
@@ -154,7 +154,7 @@ fn value_read(t: Table, returned: &[u8], r: EventNo) {
 fn final_value(t: Table, order: &[u8], x: LocationNo) {
     if (x.0 as usize) < EditionOne::LOCATIONS {
         let stated = t.finals[x.0 as usize];
-        let value = verdict::returns::final_value(t, order, x);
+        let value = returns::final_value(t, order, x);
         Line::output()
             .text(b"final value: location ")
             .number(console::wide(x.0))

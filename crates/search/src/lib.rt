@@ -40,7 +40,7 @@ fn is_allowed(t: Table, gmo: &[u8], returned: &mut [u8]) -> bool
     requires { ⌜ Small t × (length (now returned) ≡ slots) × (isOrder t (now gmo) ≡ true) ⌝ }
     ensures { λ r. ⌜ r ≡ witness t (now (gmo .entry)) ⌝ }
 {
-    verdict::determine(t, gmo, returned);
+    returns::determine(t, gmo, returned);
     let n = t.count as usize;
     match verdict::judge(t, &returned[..n], gmo) {
         Verdict::Refused(_) => false,

@@ -12,7 +12,7 @@ use Rattle.model.specs.Verdict.{brokenAt, ppoBreak, verdict}
 use Rattle.rules.specs.RuleMask.{setMask, lowestIn}
 use Rattle.rules.proofs.MaskLaws.{lowest-rule}
 use Rattle.verdict.specs.Pairs.{LowestPair}
-use Rattle.verdict.proofs.AxiomLaws.{some-below, none-below}
+use Rattle.atomicity.proofs.LowestLaws.{some-below, none-below}
 
 -- k is the lowest below n that is broken
 broken-here : (n k : ℕ) (f : ℕ → Bool) (v : ℕ → Verdict) (rest : Verdict) → k ≡ lowest n f → k < n → v k ≡ brokenAt n f v rest

@@ -1,6 +1,2 @@
-pub mod OrderLaws
-pub mod LastLaws
-pub mod ReturnLaws
 pub mod PairLaws
-pub mod AxiomLaws
 pub mod JudgeLaws

@@ -1,21 +1,15 @@
 // The verdict for a candidate: a returned list, rf, and a global memory order, gmo.
-mod atomicity;
-pub mod order;
 mod pairs;
-pub mod returns;
-mod values;
 
 use edition::EventNo;
 use edition::LocationNo;
 use refusals::Refusal;
 use table::Table;
-ghost use Prim.Native.Nat.{_≤_, _<_};
+ghost use Prim.Native.Nat.{_≤_};
 ghost use mathlib.Core.Path.{_≡_};
-ghost use mathlib.Core.List.{_++_};
-ghost use lib.ListN.{length, drop};
+ghost use lib.ListN.{length};
 ghost use Rattle.edition.specs.Limits.{maxLocations};
 ghost use Rattle.table.specs.Events.{capacity};
-ghost use Rattle.model.specs.Returns.{returnEntry, returns};
 ghost use Rattle.model.specs.Verdict.{verdict};
 ghost use Rattle.verdict.specs.Judged.{judged, judgedOf};
 
@@ -46,7 +40,7 @@ pub fn judge(t: Table, rf: &[u8], gmo: &[u8]) -> Verdict
         let rule = rules::lowest_rule(rules::rule_set(t, rf, a, b));
         return Verdict::Broken(Axiom::PreservedOrder(a, b, rule));
     }
-    let r = values::lowest_load_value(t, rf, gmo);
+    let r = stated_values::lowest_load_value(t, rf, gmo);
     if r < t.count {
         return Verdict::Broken(Axiom::LoadValue(EventNo(r)));
     }
@@ -55,37 +49,13 @@ pub fn judge(t: Table, rf: &[u8], gmo: &[u8]) -> Verdict
         let w = atomicity::atomicity_writer(t, rf, gmo, EventNo(l));
         return Verdict::Broken(Axiom::Atomicity(EventNo(l), EventNo(w)));
     }
-    let r = values::lowest_value_read(t, rf);
+    let r = stated_values::lowest_value_read(t, rf);
     if r < t.count {
         return Verdict::Broken(Axiom::ValueRead(EventNo(r)));
     }
-    let x = values::lowest_final_value(t, gmo);
+    let x = stated_values::lowest_final_value(t, gmo);
     if x < t.locations {
         return Verdict::Broken(Axiom::FinalValue(LocationNo(x)));
     }
     Verdict::Allowed
-}
-
-// An entry of the returned list that the order determines.
-fn return_entry(t: Table, gmo: &[u8], e: EventNo) -> u8
-    requires { ⌜ e .0 < capacity ⌝ }
-    ensures { λ w. ⌜ w ≡ returnEntry t (now (gmo .entry)) (e .0) ⌝ }
-{
-    if table::reads(t.events[e.0 as usize]) {
-        returns::return_of(t, gmo, e)
-    } else {
-        returns::NOTHING
-    }
-}
-
-// Writes that list to the front of `out`; what stands past it stays.
-pub fn determine(t: Table, gmo: &[u8], out: &mut [u8])
-    requires { ⌜ (t .count ≤ capacity) × (t .count ≤ length (now out)) ⌝ }
-    ensures { λ r. ⌜ now (out .exit) ≡ returns t (now (gmo .entry)) ++ drop (t .count) (now (out .entry)) ⌝ }
-{
-    let mut e: u8 = 0;
-    while e < t.count {
-        out[e as usize] = return_entry(t, gmo, EventNo(e));
-        e += 1;
-    }
 }

@@ -1,6 +1,6 @@
 // Preserved order: the lowest pair that the order breaks.
-use super::order::before;
 use edition::EventNo;
+use global_order::before;
 use table::Table;
 ghost use Prim.Native.Nat.{_≤_, _<_};
 ghost use mathlib.Core.Path.{_≡_};

@@ -45,7 +45,7 @@ fn sum(a: u64, b: u64) -> u64 {
 // Reader e returns from event w, or from the initial value.
 fn from(line: Line, e: usize, w: u8) -> Line {
     let begun = line.text(b"; ").number(e as u64).text(b" reads from ");
-    if w == verdict::returns::INITIALLY {
+    if w == reads_from::INITIALLY {
         begun.text(b"initial")
     } else {
         begun.number(console::wide(w))
@@ -56,7 +56,7 @@ fn returned(line: Line, list: [u8; LIST]) -> Line {
     let mut filled = line;
     let mut e: usize = 0;
     while e < LIST {
-        if list[e] != verdict::returns::NOTHING {
+        if list[e] != reads_from::NOTHING {
             filled = from(filled, e, list[e]);
         }
         e += 1;
@@ -67,7 +67,7 @@ fn returned(line: Line, list: [u8; LIST]) -> Line {
 fn witness(block: &[u8], walk: Walk) {
     let prefix = walk.prefix;
     let order = console::front(&prefix, walk.len);
-    let mut list = [verdict::returns::NOTHING; LIST];
+    let mut list = [reads_from::NOTHING; LIST];
     bench::returns(block, order, &mut list);
     let begun = Line::output()
         .text(b"witness ")

@@ -1,0 +1,36 @@
+use mathlib.Core.Path.{_≡_, sym}
+use native.Mathlib.Omega.{arith}
+use lib.ListN.{length, length-map}
+use lib.ListN.{List·getD-eq-default}
+use Rattle.table.specs.Events.{event}
+use borrow.Author.Needs.{needs}
+use Rattle.returns.proofs.event_of.Statement.{statement}
+use Rattle.returns.proofs.event_of.Tie as tie
+
+cast-if1 : tie.Need-cast-if1
+cast-if1 c = search needs
+
+cast-result : tie.Need-cast-result
+cast-result c = search needs
+
+mul-result : tie.Need-mul-result
+mul-result c = search needs
+
+element-copy-out-result : tie.Need-element-copy-out-result
+element-copy-out-result c = search needs
+
+returns : tie.Need-returns
+unfolding event
+returns c = search needs
+
+-- past the table's slots, the sixth field, the definition has blank events too
+returns-2 : tie.Need-returns-2
+unfolding event
+returns-2 c =
+    let v = c .before .before .args in
+    let slots : length (v .t1 .events) ≡ 32 = simp length-map at (c .before .before .good .0 .1 .1 .1 .1 .1 .1 .1 .0 .1 .0 .1) in
+    sym (List·getD-eq-default (v .t1 .events) _ {n = v .k .0} (omega arith))
+
+pub event-of-spec : {M : Type 1} → statement M
+event-of-spec =
+    tie.close (tie.spec cast-if1 cast-result mul-result element-copy-out-result returns returns-2)

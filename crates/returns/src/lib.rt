@@ -1,0 +1,142 @@
+// What an order makes each reader return, and the values that writes leave.
+use edition::EditionOne;
+use edition::EventNo;
+use edition::LocationNo;
+use global_order::before;
+use reads_from::INITIALLY;
+use reads_from::NOTHING;
+use table::Event;
+use table::Table;
+ghost use Prim.Native.Nat.{_≤_, _<_};
+ghost use mathlib.Core.Path.{_≡_};
+ghost use mathlib.Core.List.{_++_};
+ghost use lib.ListN.{length, drop};
+ghost use Rattle.lists.specs.Lists.{lastOr};
+ghost use Rattle.table.specs.Events.{capacity, event};
+ghost use Rattle.model.specs.Rules.{initially};
+ghost use Rattle.model.specs.Returns.{visible, returnOf, returnEntry, returns, initialValue, writtenValue, finalValue};
+ghost use Rattle.returns.specs.Writers.{writesTo};
+
+// Event k of the table; past its slots there are blank ones.
+fn event_of(t: Table, k: EventNo) -> Event
+    ensures { λ r. ⌜ r ≡ event t (k .0) ⌝ }
+{
+    if (k.0 as usize) < table::CAPACITY {
+        return t.events[k.0 as usize];
+    }
+    Event {
+        kind: 0,
+        hart: 0,
+        location: LocationNo(0),
+        flags: 0,
+        addr: 0,
+        data: 0,
+        ctrl: 0,
+        read: 0,
+        written: 0,
+    }
+}
+
+// w is a writer to reader r's location that precedes r in the order or in program order, never r itself.
+fn visible(t: Table, gmo: &[u8], r: EventNo, w: EventNo) -> bool
+    requires { ⌜ r .0 < capacity ⌝ }
+    ensures { λ s. ⌜ s ≡ visible t (now (gmo .entry)) (r .0) (w .0) ⌝ }
+{
+    let x = event_of(t, w);
+    let y = t.events[r.0 as usize];
+    if table::writes(x) & table::same_location(x, y) & (w.0 != r.0) {
+        before(gmo, w, r) | table::program_order(w, x, r, y)
+    } else {
+        false
+    }
+}
+
+// The write that the order makes r return from: the latest in it that r can see.
+pub fn return_of(t: Table, gmo: &[u8], r: EventNo) -> u8
+    requires { ⌜ r .0 < capacity ⌝ }
+    ensures { λ w. ⌜ w ≡ returnOf t (now (gmo .entry)) (r .0) ⌝ }
+{
+    let mut latest = INITIALLY;
+    let mut i = 0;
+    while i < gmo.len() {
+        if visible(t, gmo, r, EventNo(gmo[i])) {
+            latest = gmo[i];
+        }
+        i += 1;
+    }
+    latest
+}
+
+// An entry of the returned list that the order determines.
+fn return_entry(t: Table, gmo: &[u8], e: EventNo) -> u8
+    requires { ⌜ e .0 < capacity ⌝ }
+    ensures { λ w. ⌜ w ≡ returnEntry t (now (gmo .entry)) (e .0) ⌝ }
+{
+    if table::reads(t.events[e.0 as usize]) {
+        return_of(t, gmo, e)
+    } else {
+        NOTHING
+    }
+}
+
+// Writes that list to the front of `out`; what stands past it stays.
+pub fn determine(t: Table, gmo: &[u8], out: &mut [u8])
+    requires { ⌜ (t .count ≤ capacity) × (t .count ≤ length (now out)) ⌝ }
+    ensures { λ r. ⌜ now (out .exit) ≡ returns t (now (gmo .entry)) ++ drop (t .count) (now (out .entry)) ⌝ }
+{
+    let mut e: u8 = 0;
+    while e < t.count {
+        out[e as usize] = return_entry(t, gmo, EventNo(e));
+        e += 1;
+    }
+}
+
+fn initial_value(t: Table, x: LocationNo) -> u16
+    ensures { λ r. ⌜ r ≡ initialValue t (x .0) ⌝ }
+{
+    if (x.0 as usize) < EditionOne::LOCATIONS {
+        t.initial[x.0 as usize]
+    } else {
+        0
+    }
+}
+
+// The value that the write w, or the initial write, leaves at location x.
+pub fn written_value(t: Table, x: LocationNo, w: u8) -> u16
+    ensures { λ r. ⌜ r ≡ writtenValue t (x .0) w ⌝ }
+{
+    if w == INITIALLY {
+        initial_value(t, x)
+    } else {
+        event_of(t, EventNo(w)).written
+    }
+}
+
+fn writes_to(t: Table, x: LocationNo, w: EventNo) -> bool
+    ensures { λ r. ⌜ r ≡ writesTo t (x .0) (w .0) ⌝ }
+{
+    let e = event_of(t, w);
+    table::writes(e) & (e.location.0 == x.0)
+}
+
+// The last write to location x in the order.
+fn last_writer(t: Table, gmo: &[u8], x: LocationNo) -> u8
+    ensures { λ w. ⌜ w ≡ lastOr (writesTo t (x .0)) initially (now (gmo .entry)) ⌝ }
+{
+    let mut latest = INITIALLY;
+    let mut i = 0;
+    while i < gmo.len() {
+        if writes_to(t, x, EventNo(gmo[i])) {
+            latest = gmo[i];
+        }
+        i += 1;
+    }
+    latest
+}
+
+// The value that the order leaves at location x.
+pub fn final_value(t: Table, gmo: &[u8], x: LocationNo) -> u16
+    ensures { λ r. ⌜ r ≡ finalValue t (now (gmo .entry)) (x .0) ⌝ }
+{
+    written_value(t, x, last_writer(t, gmo, x))
+}
