@@ -19,12 +19,12 @@ enum Effect {
 }
 
 fn event(line: Line, e: EventNo) -> Line {
-    line.spaced(console::wide(e.0))
+    line.item(b" ", e.0)
 }
 
 fn preserved_order(line: Line, a: EventNo, b: EventNo, rule: u8) -> Line {
     let pair = event(event(line.text(b"preserved order"), a), b);
-    pair.text(b" rule").spaced(console::wide(rule))
+    pair.item(b" rule ", rule)
 }
 
 fn axiom(line: Line, broken: Axiom) -> Line {
@@ -33,7 +33,7 @@ fn axiom(line: Line, broken: Axiom) -> Line {
         Axiom::LoadValue(reader) => event(line.text(b"load value"), reader),
         Axiom::Atomicity(lr, writer) => event(event(line.text(b"atomicity"), lr), writer),
         Axiom::ValueRead(reader) => event(line.text(b"value read"), reader),
-        Axiom::FinalValue(x) => line.text(b"final value").spaced(console::wide(x.0)),
+        Axiom::FinalValue(x) => line.item(b"final value ", x.0),
     }
 }
 

@@ -71,9 +71,14 @@ impl Line {
         self.text(&digits[..k])
     }
 
-    // A value of a location.
-    pub fn value(self, v: u16) -> Line {
-        self.number(v as u64)
+    // A text and the number of an event, a hart, a location or a rule.
+    pub fn item(self, text: &[u8], n: u8) -> Line {
+        self.text(text).number(super::wide(n))
+    }
+
+    // A text and a value of a location.
+    pub fn value(self, text: &[u8], v: u16) -> Line {
+        self.text(text).number(v as u64)
     }
 
     pub fn spaced(self, n: u64) -> Line {

@@ -37,7 +37,7 @@ candidate breaks, with its place; or the refusal of what was handed in.
 }
 
 fn event(line: Line, e: EventNo) -> Line {
-    line.text(b"event ").number(console::wide(e.0))
+    line.item(b"event ", e.0)
 }
 
 // What a reader returns from.
@@ -71,12 +71,12 @@ SC
 
 fn values(line: Line, e: Event) -> Line {
     let read = if table::reads(e) {
-        line.text(b", reads ").value(e.read)
+        line.value(b", reads ", e.read)
     } else {
         line
     };
     if table::writes(e) {
-        read.text(b", writes ").value(e.written)
+        read.value(b", writes ", e.written)
     } else {
         read
     }
@@ -87,24 +87,18 @@ fn describe(t: Table, k: EventNo) {
     if (k.0 as usize) < table::CAPACITY {
         let e = t.events[k.0 as usize];
         let begun = event(Line::output().text(b"  "), k)
-            .text(b": hart ")
-            .number(console::wide(e.hart))
+            .item(b": hart ", e.hart)
             .text(b", ");
-        let placed = kind(begun, e.kind).text(b" at location ")
-            .number(console::wide(e.location.0));
+        let placed = kind(begun, e.kind).item(b" at location ", e.location.0);
         values(placed, e).end();
     }
 }
 
 fn preserved_order(t: Table, a: EventNo, b: EventNo, rule: u8) {
     let first = event(Line::output().text(b"preserved order: "), a).text(b" before ");
-    let pair = event(first, b)
-        .text(b" by rule ")
-        .number(console::wide(rule))
-        .text(b" (");
+    let pair = event(first, b).item(b" by rule ", rule).text(b" (");
     words::rule(pair, rule)
-        .text(b"), but the order has ")
-        .number(console::wide(b.0))
+        .item(b"), but the order has ", b.0)
         .text(b" first")
         .end();
     describe(t, a);
@@ -124,8 +118,7 @@ fn load_value(t: Table, block: &[u8], returned: &[u8], order: &[u8], r: EventNo)
 // load value hold.
 fn atomicity(t: Table, returned: &[u8], lr: EventNo, w: EventNo) {
     let reader = Line::output()
-        .text(b"atomicity: LR ")
-        .number(console::wide(lr.0))
+        .item(b"atomicity: LR ", lr.0)
         .text(b" returns from ");
     let between = source(reader, entry(returned, lr)).text(b", but ");
     event(between, w)
@@ -141,10 +134,8 @@ fn value_read(t: Table, returned: &[u8], r: EventNo) {
         let w = entry(returned, r);
         let value = returns::written_value(t, e.location, w);
         let reader = event(Line::output().text(b"value read: "), r)
-            .text(b" is stated to read ")
-            .value(e.read)
-            .text(b", but returns ")
-            .value(value)
+            .value(b" is stated to read ", e.read)
+            .value(b", but returns ", value)
             .text(b" from ");
         source(reader, w).end();
         describe(t, r);
@@ -156,12 +147,9 @@ fn final_value(t: Table, order: &[u8], x: LocationNo) {
         let stated = t.finals[x.0 as usize];
         let value = returns::final_value(t, order, x);
         Line::output()
-            .text(b"final value: location ")
-            .number(console::wide(x.0))
-            .text(b" is stated to end at ")
-            .value(stated)
-            .text(b", but the order leaves ")
-            .value(value)
+            .item(b"final value: location ", x.0)
+            .value(b" is stated to end at ", stated)
+            .value(b", but the order leaves ", value)
             .end();
     }
 }

@@ -8,7 +8,7 @@ use table::Table;
 const LOCATIONS: usize = 8;
 
 fn value(line: Line, v: u16) -> Line {
-    line.text(b" ").value(v)
+    line.value(b" ", v)
 }
 
 fn values(line: Line, list: [u16; 8]) -> Line {

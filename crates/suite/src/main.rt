@@ -28,8 +28,7 @@ fn outcome(line: Line, o: Outcome, answer: &[u8]) -> Line {
 fn search(line: Line, bytes: &[u8]) -> Line {
     let mut answer = [0u8; ANSWER];
     match bench::search(bytes, b"", &mut answer, ALLOWANCE) {
-        Reply::Refused(r) => line.text(b"refused ")
-            .number(console::wide(words::number(r))),
+        Reply::Refused(r) => line.item(b"refused ", words::number(r)),
         Reply::Answered(o) => outcome(line, o, &answer),
     }
 }

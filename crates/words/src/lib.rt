@@ -52,14 +52,10 @@ the second writes, and the address of an event between them depends on the first
 
 // A refusal's number, and its record where it names one. `None` is no refusal, and no entry says that it refuses by it.
 pub fn refused(line: Line, r: Refusal) -> Line {
-    let begun = line.text(b"refused ");
     match r {
-        Refusal::None => begun.number(0),
-        Refusal::Line(n) => begun.number(console::wide(n)),
-        Refusal::Record(n, k) => begun
-            .number(console::wide(n))
-            .text(b", record ")
-            .number(console::wide(k.0)),
+        Refusal::None => line.item(b"refused ", 0),
+        Refusal::Line(n) => line.item(b"refused ", n),
+        Refusal::Record(n, k) => line.item(b"refused ", n).item(b", record ", k.0),
     }
 }
 
