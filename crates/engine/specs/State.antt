@@ -64,5 +64,5 @@ pub record Moved (preds : List ℕ) (mem : ℕ) (order : List ℕ) (len keep eve
   pub holds : Holds preds mem (set order keep event) (keep + 1) placed can
 
 abbrev pub NextIs : List ℕ → ℕ → List ℕ → ℕ → Step → Type 0
-NextIs preds mem order len (Place keep event placed can) = Moved preds mem order len keep event placed can
+NextIs preds mem order len (Place keep event masks) = Moved preds mem order len keep event (masks .placed) (masks .can)
 NextIs preds mem order len End = after (take len order) (masked preds mem) ≡ []

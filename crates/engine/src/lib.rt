@@ -28,13 +28,8 @@ pub enum Loaded {
 }
 
 pub enum Step {
-    // The next prefix: the first `keep` entries of the order, then `event`.
-    Place {
-        keep: usize,
-        event: u8,
-        placed: u32,
-        can: u32,
-    },
+    // The next prefix: how many entries of the order it keeps, the event behind them, and its masks.
+    Place(usize, u8, Masks),
     End,
 }
 
@@ -187,10 +182,5 @@ pub fn next(
     }
     let e = lowest_set(later);
     let after = place(pred, succ, mem, e, masks.placed, masks.can);
-    Step::Place {
-        keep,
-        event: e as u8,
-        placed: after.placed,
-        can: after.can,
-    }
+    Step::Place(keep, e as u8, after)
 }

@@ -10,13 +10,13 @@ use borrow.Author.Tests.{ltb-true, lt-ltb, le-ltb, eqb-true, eqb-false}
 use Rattle.lists.specs.Below.{upFrom, below}
 use Rattle.lists.specs.Lists.{all, has, kept, keep}
 use Rattle.lists.proofs.BoolLaws.{bool-ext}
-use Rattle.lists.proofs.ListLaws.{all-has}
+use Rattle.lists.proofs.ListLaws.{all-has, all-keep}
 use Rattle.lists.proofs.MemberLaws.{below-has}
 use Rattle.masks.specs.Bit.{bit}
 use Rattle.masks.specs.MaskOf.{maskOf}
 use Rattle.masks.proofs.BitLaws.{bit-or, bit-zero, bit-pow}
 use Rattle.masks.proofs.PowerLaws.{bits-same}
-use Rattle.masks.proofs.MaskOfLaws.{mask-has}
+use Rattle.masks.proofs.MaskOfLaws.{mask-has, mask-lt}
 
 -- the numbers from a on are below n
 all-from : (n a m : ℕ) → a + m ≤ n → all (λ e. ltb e n) (upFrom a m) ≡ true
@@ -47,8 +47,12 @@ has-keep f (x ∷ l) k = go (eqb k x) refl (f x) refl (has-keep f l k)
 pub mask-below : (f : ℕ → Bool) (n k : ℕ) → bit (maskOf (keep f (below n))) k ≡ (ltb k n && f k)
 mask-below f n k = mask-has (keep f (below n)) k ∙ has-keep f (below n) k ∙ ap (λ (b : Bool). b && f k) (has-below n k)
 
+-- the mask is one of w bits
+pub mask-below-lt : (f : ℕ → Bool) (n w : ℕ) → n ≤ w → maskOf (keep f (below n)) < 2 ^ w
+mask-below-lt f n w h = mask-lt w (keep f (below n)) (all-keep (λ e. ltb e w) f (below n) (all-from w 0 n (omega arith)))
+
 -- one bit, if it passes
-bit-if : (b : Bool) (k j : ℕ) → bit (cond b (2 ^ k) 0) j ≡ (b && eqb k j)
+pub bit-if : (b : Bool) (k j : ℕ) → bit (cond b (2 ^ k) 0) j ≡ (b && eqb k j)
 bit-if true k j = bit-pow k j
 bit-if false k j = bit-zero j
 

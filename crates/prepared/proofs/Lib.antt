@@ -2,3 +2,4 @@ pub mod GatherLaws
 pub mod FillLaws
 pub mod SortLaws
 pub mod PreparedLaws
+pub mod LeavingLaws

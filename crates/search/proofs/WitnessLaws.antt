@@ -1,49 +1,55 @@
 -- The tests of a whole order, cheapest first, each against "witness".
-use Prim.Native.Nat.{ℕ, _≤_}
+use Prim.Native.Nat.{ℕ, _^_, _<_}
 use mathlib.Core.Path.{_≡_, refl, sym, ap, subst, _∙_}
-use mathlib.Core.Bool.{Bool, true, false, _&&_}
+use mathlib.Core.Bool.{Bool, true, false, _&&_, and-assoc}
 use mathlib.Core.List.{List, _++_}
+use native.Mathlib.Omega.{arith}
 use lib.ListN.{length, take, drop}
 use lib.Seq.{take-at}
-use native.Mathlib.Omega.{arith}
-use Rattle.lists.proofs.BoolLaws.{and-left, and-right}
+use Rattle.lists.proofs.BoolLaws.{and-right}
 use Rattle.lists.proofs.FilledLaws.{length-upTo}
+use Rattle.edition.specs.Limits.{maxLocations}
 use Rattle.table.specs.declared.Table.{Table}
-use Rattle.table.specs.Events.{capacity}
 use Rattle.model.specs.Returns.{returnEntry, returns}
 use Rattle.model.specs.Axioms.{valuesRead, finalValues}
 use Rattle.model.specs.Witness.{isOrder, lawful, witness}
-use Rattle.model.specs.Verdict.{Verdict, allowed, verdict}
+use Rattle.model.specs.Verdict.{allowed, verdict}
 use Rattle.model.proofs.VerdictLaws.{witness-allowed}
+use Rattle.prepared.proofs.PreparedLaws.{finals-small}
 use Rattle.values.specs.QuickTest.{valuesReadBy, finalValuesBy}
-use Rattle.values.proofs.ValueLaws.{values-read, final-values}
+use Rattle.values.proofs.ValueLaws.{values-agree}
 use Rattle.verdict.specs.Judged.{judged, axiomOf, judgedOf}
-use Rattle.verdict.specs.declared.Axiom as axioms
-use Rattle.verdict.specs.declared.Verdict as verdicts
 use Rattle.verdict.specs.declared.Axiom.the-variants.{PreservedOrder, LoadValue, Atomicity, ValueRead, FinalValue}
 use Rattle.verdict.specs.declared.Verdict.the-variants.{Refused, Broken, Allowed}
 use Rattle.search.specs.Running.{Small, Valued}
+use Rattle.verdict.specs.declared.Axiom as axioms
+use Rattle.verdict.specs.declared.Verdict as verdicts
 
-module _ {t : Table} (small : Small t) {readers : ℕ} {rivals own initial written stated writers starts finals : List ℕ}
-    (facts : Valued t readers rivals own initial written stated writers starts finals) where
-  few : t .count ≤ capacity
-  few = omega (arith, small .events)
-
-  -- a value read differs: no witness
-  pub value-differs : (gmo : List ℕ) → isOrder t gmo ≡ true → valuesReadBy readers rivals own initial written stated gmo ≡ false → witness t gmo ≡ false
+module _ {t : Table} (small : Small t) {readers finals : ℕ} {rivals own right writers lasting : List ℕ}
+    (facts : Valued t readers rivals own right finals writers lasting) where
+  -- a value differs: no witness
+  pub value-differs : (gmo : List ℕ) → isOrder t gmo ≡ true →
+      (valuesReadBy readers rivals own right gmo && finalValuesBy finals writers lasting gmo) ≡ false → witness t gmo ≡ false
   unfolding witness
   value-differs gmo o h =
-      let e = rw (facts .reader-mask, facts .rival-masks, facts .own-masks, facts .initial-values, facts .written-values, facts .stated-values) at h in
-      let v : valuesRead t (returns t gmo) ≡ false = sym (values-read t gmo few o) ∙ e in
-      sym (and-left (lawful t gmo && valuesRead t (returns t gmo)) (finalValues t gmo) (and-right (lawful t gmo) (valuesRead t (returns t gmo)) v))
+      let e =
+      rw (
+        facts .reader-mask,
+        facts .rival-masks,
+        facts .own-masks,
+        facts .right-masks,
+        facts .final-mask,
+        facts .writer-masks,
+        facts .lasting-masks,
+      )
+      at h in
+      and-assoc (lawful t gmo) (valuesRead t (returns t gmo)) (finalValues t gmo)
+      ∙ and-right (lawful t gmo) (valuesRead t (returns t gmo) && finalValues t gmo)
+      (sym (values-agree t gmo (omega (arith, small .events)) o (small .locations)) ∙ e)
 
-  -- a final value differs: no witness
-  pub final-differs : (gmo : List ℕ) → isOrder t gmo ≡ true → finalValuesBy (t .locations) (t .stated) writers starts written finals gmo ≡ false →
-      witness t gmo ≡ false
-  unfolding witness
-  final-differs gmo o h =
-      let e = rw (facts .writer-masks, facts .location-values, facts .written-values, facts .final-values) at h in
-      and-right (lawful t gmo && valuesRead t (returns t gmo)) (finalValues t gmo) (sym (final-values t gmo few o (small .locations)) ∙ e)
+  -- the mask of the stated locations has a bit for each location
+  pub final-room : finals < 2 ^ maxLocations
+  final-room = subst (λ (m : ℕ). m < 2 ^ maxLocations) (sym (facts .final-mask)) (finals-small t (small .locations))
 
 -- what was determined stands at the front of the list
 pub determined : (t : Table) (gmo out o : List ℕ) → out ≡ returns t gmo ++ drop (t .count) o → take (t .count) out ≡ returns t gmo

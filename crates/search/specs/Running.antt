@@ -12,12 +12,12 @@ use Rattle.prefixes.specs.Statements.{seek}
 use Rattle.model.specs.Witness.{witness}
 use Rattle.model.specs.Prefixes.{cleanPrefixes}
 use Rattle.engine.specs.CleanMasks.{slots, limit}
-use Rattle.engine.specs.State.{Prepared, Holds}
+use Rattle.engine.specs.State.{Prepared}
+use Rattle.precedence.specs.Precedence.{predecessorMasks, memoryMask}
+use Rattle.prepared.specs.Prepared.{readersOf, finalsOf, rivalMasks, ownMasks, rightMasks, writerMasks, lastingMasks}
 use Rattle.search.specs.declared.Outcome.{Outcome}
 use Rattle.search.specs.declared.Outcome.the-variants.{Found, NoneLeft, Spent}
 use Rattle.search.specs.Outcome.{outcomeOf}
-use Rattle.prepared.specs.Prepared.{readersOf, rivalMasks, ownMasks, initialValues, writtenValues, statedValues, writerMasks}
-use Rattle.precedence.specs.Precedence.{predecessorMasks, memoryMask}
 
 -- the counts of a table that was read
 pub record Small (t : Table) : Type 0 where
@@ -31,17 +31,15 @@ pub record Masked (t : Table) (preds succs : List ℕ) (mem : ℕ) : Type 0 wher
   pub memory : mem ≡ memoryMask t
   pub prepared : Prepared preds succs mem
 
--- the arrays by which values are tested are those of the table
-pub record Valued (t : Table) (readers : ℕ) (rivals own initial written stated writers starts finals : List ℕ) : Type 0 where
+-- the masks by which values are tested are those of the table
+pub record Valued (t : Table) (readers : ℕ) (rivals own right : List ℕ) (finals : ℕ) (writers lasting : List ℕ) : Type 0 where
   pub reader-mask : readers ≡ readersOf t
   pub rival-masks : rivals ≡ rivalMasks t
   pub own-masks : own ≡ ownMasks t
-  pub initial-values : initial ≡ initialValues t
-  pub written-values : written ≡ writtenValues t
-  pub stated-values : stated ≡ statedValues t
+  pub right-masks : right ≡ rightMasks t
+  pub final-mask : finals ≡ finalsOf t
   pub writer-masks : writers ≡ writerMasks t
-  pub location-values : starts ≡ t .initial
-  pub final-values : finals ≡ t .finals
+  pub lasting-masks : lasting ≡ lastingMasks t
 
 -- the prefix of an outcome has at most n entries
 abbrev pub AtMost : ℕ → Outcome → Type 0

@@ -1,6 +1,7 @@
 // A search of a table: the engine's walk with a counted budget, which stops at the first witness.
 use edition::EditionOne;
 use engine::Loaded;
+use engine::Masks;
 use engine::SLOTS;
 use engine::Step;
 use refusals::Refusal;
@@ -90,67 +91,55 @@ fn walk(
     readers: u32,
     rivals: &[u32; SLOTS],
     own: &[u32; SLOTS],
-    initial: &[u16; SLOTS],
-    written: &[u16; SLOTS],
-    stated: &[u16; SLOTS],
+    right: &[u32; SLOTS],
+    finals: u32,
     writers: &[u32; EditionOne::LOCATIONS],
-    starts: &[u16; EditionOne::LOCATIONS],
-    finals: &[u16; EditionOne::LOCATIONS],
+    lasting: &[u32; EditionOne::LOCATIONS],
     order: &mut [u8; SLOTS],
     start: usize,
-    first: u32,
-    ready: u32,
+    first: Masks,
     budget: u64,
 ) -> Outcome
-    requires { ⌜ Masked t (now pred) (now succ) mem × Holds (now pred) mem (now order) start first ready ⌝ }
-    requires { ⌜ Valued t readers (now rivals) (now own) (now initial) (now written) (now stated) (now writers) (now starts) (now finals) ⌝ }
+    requires { ⌜ Masked t (now pred) (now succ) mem × Holds (now pred) mem (now order) start (first .placed) (first .can) ⌝ }
+    requires { ⌜ Valued t readers (now rivals) (now own) (now right) finals (now writers) (now lasting) ⌝ }
     ensures { λ r. ⌜ Ran t (take start (now (order .entry))) budget r (now (order .exit)) ⌝ }
 {
     let total = u32::count_ones(mem) as usize;
     let mut len = start;
-    let mut placed = first;
-    let mut can = ready;
+    let mut masks = first;
     let mut visited: u64 = 0;
     loop {
-        let step = engine::next(pred, succ, mem, &*order, len, placed, can);
+        let step = engine::next(pred, succ, mem, &*order, len, masks.placed, masks.can);
         match step {
             Step::End => return Outcome::NoneLeft { visited },
-            Step::Place {
-                keep,
-                event,
-                placed: p,
-                can: c,
-            } => {
+            Step::Place(keep, event, after) => {
                 if visited == budget {
-                    return spent(placed, visited);
+                    return spent(masks.placed, visited);
                 }
                 order[keep] = event;
                 len = keep + 1;
-                placed = p;
-                can = c;
+                masks = after;
                 visited += 1;
             }
         }
         if len != total {
             continue;
         }
-        if !values::values_read(&*order, len, readers, rivals, own, initial, written, stated) {
-            continue;
-        }
-        if !values::final_values(
+        if !values::agree(
             &*order,
             len,
-            t.locations,
-            t.stated,
-            writers,
-            starts,
-            written,
+            readers,
+            rivals,
+            own,
+            right,
             finals,
+            writers,
+            lasting,
         ) {
             continue;
         }
         if is_witness(t, &*order, len) {
-            return found(placed, visited);
+            return found(masks.placed, visited);
         }
     }
 }
@@ -163,22 +152,20 @@ fn run(
     mem: u32,
     order: &mut [u8; SLOTS],
     start: usize,
-    first: u32,
-    ready: u32,
+    first: Masks,
     budget: u64,
 ) -> Outcome
-    requires { ⌜ Masked t (now pred) (now succ) mem × Holds (now pred) mem (now order) start first ready ⌝ }
+    requires { ⌜ Masked t (now pred) (now succ) mem × Holds (now pred) mem (now order) start (first .placed) (first .can) ⌝ }
     ensures { λ r. ⌜ Ran t (take start (now (order .entry))) budget r (now (order .exit)) ⌝ }
 {
     let readers = prepared::readers(t);
     let rivals = prepared::rival_masks(t);
     let own = prepared::own_masks(t);
-    let initial = prepared::initial_values(t);
     let written = prepared::written_values(t);
-    let stated = prepared::stated_values(t);
+    let right = prepared::right_masks(t, &written);
+    let finals = prepared::finals(t);
     let writers = prepared::writer_masks(t);
-    let starts = t.initial;
-    let finals = t.finals;
+    let lasting = prepared::lasting_masks(t, &written);
     walk(
         t,
         pred,
@@ -187,16 +174,13 @@ fn run(
         readers,
         &rivals,
         &own,
-        &initial,
-        &written,
-        &stated,
+        &right,
+        finals,
         &writers,
-        &starts,
-        &finals,
+        &lasting,
         order,
         start,
         first,
-        ready,
         budget,
     )
 }
@@ -245,17 +229,8 @@ pub fn search(t: Table, start: &[u8], out: &mut [u8], allowance: u64) -> Reply
             if ALLOWANCE < allowance {
                 return Reply::Refused(Refusal::Line(17));
             }
-            let outcome = run(
-                t,
-                &pred,
-                &succ,
-                mem,
-                &mut order,
-                len,
-                placed,
-                can,
-                allowance,
-            );
+            let masks = Masks { placed, can };
+            let outcome = run(t, &pred, &succ, mem, &mut order, len, masks, allowance);
             deliver(outcome, &order, out);
             Reply::Answered(outcome)
         }

@@ -31,6 +31,18 @@ last-same q p g d (x ∷ l) a e =
     let t = and-eq-true-iff (q x) (all q l) .0 a in
     rw (e x (t .0)) (last-same q p g (cond (g x) x d) l (t .1) e)
 
+-- what changes none of the entries can be done before or after
+pub last-map : (q : ℕ → Bool) (h : ℕ → ℕ) (p : ℕ → Bool) (d : ℕ) (l : List ℕ) → all q l ≡ true → ((x : ℕ) → q x ≡ true → h x ≡ x) →
+    lastOr p (h d) l ≡ h (lastOr p d l)
+last-map q h p d [] a e = refl
+last-map q h p d (x ∷ l) a e = ap (λ (k : ℕ). lastOr p k l) first ∙ last-map q h p (cond (p x) x d) l (t .1) e
+  where
+    t : (q x ≡ true) × (all q l ≡ true)
+    t = and-eq-true-iff (q x) (all q l) .0 a
+
+    first : cond (p x) x (h d) ≡ h (cond (p x) x d)
+    first = elim (p x) as (λ b. cond b x (h d) ≡ h (cond b x d)) [ true ↦ sym (e x (t .0)) | false ↦ refl ]
+
 module _ (p : ℕ → Bool) (d : ℕ) (xs : List ℕ) (n : ℕ) where
   -- of the first n entries those from i on don't pass
   abbrev pub Behind : ℕ → Type 0

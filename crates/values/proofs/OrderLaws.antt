@@ -9,14 +9,16 @@ use lib.ListN.{length, getD, take, length-take}
 use lib.Seq.{getD-take}
 use borrow.Author.Tests.{ltb-true, lt-ltb, eqb-true, eq-eqb}
 use Rattle.lists.specs.Below.{below}
-use Rattle.lists.specs.Lists.{all, has, count, distinct}
+use Rattle.lists.specs.Lists.{all, has, count, distinct, lastOr}
 use Rattle.lists.proofs.BoolLaws.{and-l, and-r}
 use Rattle.lists.proofs.ListLaws.{all-has}
 use Rattle.table.specs.declared.Table.{Table}
 use Rattle.table.specs.Events.{capacity, memory, memoryEvents}
 use Rattle.model.specs.Witness.{isMemoryEvent, isOrder}
+use Rattle.prepared.specs.Prepared.{initialSlot}
 use Rattle.prepared.proofs.GatherLaws.{has-keep, has-below}
 use Rattle.values.specs.QuickTest.{Listed}
+use Rattle.values.proofs.LastLaws.{last-all}
 
 -- what every entry passes, the entry at j passes
 all-getD : (q : ℕ → Bool) (l : List ℕ) (j : ℕ) → all q l ≡ true → j < length l → q (getD l j 0) ≡ true
@@ -29,6 +31,12 @@ pub listed-at : (xs : List ℕ) (n j : ℕ) → Listed xs n → j < n → getD x
 listed-at xs n j ok h =
     let at = all-getD (λ e. ltb e capacity) (take n xs) j (ok .fitting) (omega (arith, ok .long, ok .within, length-take n xs)) in
     ltb-true (getD xs j 0) capacity (sym (ap (λ (e : ℕ). ltb e capacity) (getD-take n xs j 0 h)) ∙ at)
+
+-- so has the last that passes a test, or the initial write
+pub last-fits : (p : ℕ → Bool) (xs : List ℕ) (n : ℕ) → Listed xs n → lastOr p initialSlot (take n xs) < capacity
+last-fits p xs n ok =
+    ltb-true (lastOr p initialSlot (take n xs)) capacity
+    (last-all (λ e. ltb e capacity) p initialSlot (take n xs) refl (ok .fitting))
 
 -- a weaker test
 pub all-imp : (p q : ℕ → Bool) (l : List ℕ) → ((x : ℕ) → p x ≡ true → q x ≡ true) → all p l ≡ true → all q l ≡ true

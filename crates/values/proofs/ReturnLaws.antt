@@ -8,15 +8,14 @@ use lib.Dec.{eqb, ltb}
 use lib.ListN.{getD, take, drop, length-take, drop-of-length-le}
 use lib.Seq.{split-at, drop-cons, getD-take}
 use borrow.Author.Tests.{eq-eqb, ne-eqb, not-true}
-use Rattle.lists.specs.Lists.{all, has, distinct, before}
+use Rattle.lists.specs.Lists.{all, has, distinct, before, lastOr}
 use Rattle.lists.proofs.BoolLaws.{and-l}
 use Rattle.masks.specs.Bit.{bit}
 use Rattle.table.specs.declared.Table.{Table}
 use Rattle.table.specs.Events.{reads, writes, memory, sameLocation, po}
-use Rattle.model.specs.Rules.{initially}
-use Rattle.model.specs.Returns.{visible, returnOf}
+use Rattle.model.specs.Returns.{visible}
 use Rattle.model.specs.Witness.{isMemoryEvent}
-use Rattle.prepared.specs.Prepared.{rival, ownRival, rivalsOf, ownOf}
+use Rattle.prepared.specs.Prepared.{rival, ownRival, rivalsOf, ownOf, initialSlot}
 use Rattle.prepared.proofs.GatherLaws.{mask-below}
 use Rattle.values.specs.QuickTest.{Listed, visibleBy, returnBy}
 use Rattle.values.proofs.LastLaws.{last-same, Behind, behind-start, behind-more, behind-hit, behind-end}
@@ -53,12 +52,12 @@ module _ (rivals own : ℕ) (xs : List ℕ) (n r : ℕ) where
 
   -- the scan has come to i with the mask m: r returns from none of the entries from i on
   abbrev pub Passed : ℕ → ℕ → Type 0
-  Passed i m = Behind (visibleBy rivals own gmo r) initially xs n i × (m ≡ maskAt i)
+  Passed i m = Behind (visibleBy rivals own gmo r) initialSlot xs n i × (m ≡ maskAt i)
 
   -- nothing is tested yet
   pub passed-start : Passed n own
   passed-start = (
-    behind-start (visibleBy rivals own gmo r) initially xs n,
+    behind-start (visibleBy rivals own gmo r) initialSlot xs n,
     sym (ap (λ (l : List ℕ). cond (has r l) rivals own) (drop-of-length-le gmo {i = n} (omega (arith, length-take n xs)))),
   )
 
@@ -86,7 +85,7 @@ module _ (rivals own : ℕ) (xs : List ℕ) (n r : ℕ) where
     -- the entry is in the mask: r returns from it
     pub passed-hit : bit m e ≡ true → e ≡ returnBy rivals own gmo r
     unfolding returnBy
-    passed-hit f = behind-hit (visibleBy rivals own gmo r) initially xs n i (omega arith) (s .0) h (seen ∙ f)
+    passed-hit f = behind-hit (visibleBy rivals own gmo r) initialSlot xs n i (omega arith) (s .0) h (seen ∙ f)
 
     -- the mask of the entry before: `rivals` if this one is r
     mask-before : maskAt (i - 1) ≡ cond (eqb r e) rivals m
@@ -101,21 +100,21 @@ module _ (rivals own : ℕ) (xs : List ℕ) (n r : ℕ) where
     -- the entry isn't in the mask, and it is r: go on among the rivals
     pub passed-reader : bit m e ≡ false → e ≡ r → Passed (i - 1) rivals
     passed-reader f q = (
-      behind-more (visibleBy rivals own gmo r) initially xs n i (omega arith) (s .0) h (seen ∙ f),
+      behind-more (visibleBy rivals own gmo r) initialSlot xs n i (omega arith) (s .0) h (seen ∙ f),
       sym (mask-before ∙ ap (λ (b : Bool). cond b rivals m) (eq-eqb r e (sym q))),
     )
 
     -- it isn't r: go on
     pub passed-other : bit m e ≡ false → (e ≡ r → ⊥) → Passed (i - 1) m
     passed-other f q = (
-      behind-more (visibleBy rivals own gmo r) initially xs n i (omega arith) (s .0) h (seen ∙ f),
+      behind-more (visibleBy rivals own gmo r) initialSlot xs n i (omega arith) (s .0) h (seen ∙ f),
       sym (mask-before ∙ ap (λ (b : Bool). cond b rivals m) (ne-eqb r e (λ k. q (sym k)))),
     )
 
   -- all were tested: r returns from the initial write
-  pub passed-end : (i m : ℕ) → Passed i m → i ≤ 0 → initially ≡ returnBy rivals own gmo r
+  pub passed-end : (i m : ℕ) → Passed i m → i ≤ 0 → initialSlot ≡ returnBy rivals own gmo r
   unfolding returnBy
-  passed-end i m s h = behind-end (visibleBy rivals own gmo r) initially xs n i (s .0) h
+  passed-end i m s h = behind-end (visibleBy rivals own gmo r) initialSlot xs n i (s .0) h
 
 -- by the masks of the table, a reader can return from the same writes as in the model
 visible-same : (t : Table) (gmo : List ℕ) (r w : ℕ) → reads t r ≡ true → ltb w (t .count) ≡ true →
@@ -129,8 +128,8 @@ visible-same t gmo r w h k = go (before gmo w r)
 
 -- by the masks of the table, a reader returns from what the model says
 pub return-same : (t : Table) (gmo : List ℕ) (r : ℕ) → all (isMemoryEvent t) gmo ≡ true → reads t r ≡ true →
-    returnBy (rivalsOf t r) (ownOf t r) gmo r ≡ returnOf t gmo r
-unfolding returnBy returnOf isMemoryEvent
+    returnBy (rivalsOf t r) (ownOf t r) gmo r ≡ lastOr (visible t gmo r) initialSlot gmo
+unfolding returnBy isMemoryEvent
 return-same t gmo r a h =
-    last-same (isMemoryEvent t) (visibleBy (rivalsOf t r) (ownOf t r) gmo r) (visible t gmo r) initially gmo a
+    last-same (isMemoryEvent t) (visibleBy (rivalsOf t r) (ownOf t r) gmo r) (visible t gmo r) initialSlot gmo a
     (λ w i. visible-same t gmo r w h (and-l (ltb w (t .count)) (memory t w) i))

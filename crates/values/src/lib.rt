@@ -1,22 +1,21 @@
-// The quick test of an order's values. It takes small lent arrays in place of the table, which is copied at each call.
+// The quick test of an order's values. It takes masks in place of the table, which is copied at each call: `rivals`, `own` and
+// `right` for each event, `writers` and `lasting` for each location (crate `prepared`).
 use edition::EditionOne;
+use prepared::INITIAL_SLOT;
 use table::CAPACITY;
-ghost use Prim.Native.Nat.{_≤_};
+ghost use Prim.Native.Nat.{_^_, _<_};
 ghost use mathlib.Core.Path.{_≡_};
+ghost use mathlib.Core.Bool.{_&&_};
 ghost use lib.ListN.{take};
-ghost use lib.Dec.{eqb};
 ghost use Rattle.lists.specs.Lists.{lastOr};
 ghost use Rattle.masks.specs.Bit.{bit};
 ghost use Rattle.edition.specs.Limits.{maxLocations};
-ghost use Rattle.model.specs.Rules.{initially};
-ghost use Rattle.values.specs.QuickTest.{Listed, returnBy, valueBy, valuesReadBy, finalValuesBy};
-
-// The initial write, as what is returned from: no event has that number.
-const INITIALLY: u8 = 255;
+ghost use Rattle.prepared.specs.Prepared.{initialSlot};
+ghost use Rattle.values.specs.QuickTest.{Listed, returnBy, valuesReadBy, finalValuesBy};
 
 // What reader `r` returns from in the global memory order, the first `len` entries of `order`. Backwards, a rival counts only
 // once `r` is passed, but one that is earlier in program order counts at once: a hart sees its own writes early.
-pub fn return_of(order: &[u8; CAPACITY], len: usize, r: u8, rivals: u32, own: u32) -> u8
+fn return_of(order: &[u8; CAPACITY], len: usize, r: u8, rivals: u32, own: u32) -> u8
     requires { ⌜ Listed (now order) len ⌝ }
     ensures { λ w. ⌜ w ≡ returnBy rivals own (take len (now (order .entry))) r ⌝ }
 {
@@ -32,13 +31,13 @@ pub fn return_of(order: &[u8; CAPACITY], len: usize, r: u8, rivals: u32, own: u3
             seen = rivals;
         }
     }
-    INITIALLY
+    INITIAL_SLOT
 }
 
 // The last of the writers in the global memory order, from which the final value comes.
 fn last_write(order: &[u8; CAPACITY], len: usize, writers: u32) -> u8
     requires { ⌜ Listed (now order) len ⌝ }
-    ensures { λ w. ⌜ w ≡ lastOr (bit writers) initially (take len (now (order .entry))) ⌝ }
+    ensures { λ w. ⌜ w ≡ lastOr (bit writers) initialSlot (take len (now (order .entry))) ⌝ }
 {
     let mut i = len;
     while 0 < i {
@@ -48,42 +47,28 @@ fn last_write(order: &[u8; CAPACITY], len: usize, writers: u32) -> u8
             return e;
         }
     }
-    INITIALLY
+    INITIAL_SLOT
 }
 
-// The write `w` leaves `value`, or the initial write does if `w` is no event.
-fn leaves(written: &[u16; CAPACITY], initial: u16, w: u8, value: u16) -> bool
-    ensures { λ b. ⌜ b ≡ eqb (valueBy (now (written .entry)) initial w) value ⌝ }
-{
-    if (w as usize) < CAPACITY {
-        written[w as usize] == value
-    } else {
-        initial == value
-    }
-}
-
-// Each reader returns its stated value. The arrays have an entry for each event.
-pub fn values_read(
+// Each reader returns its stated value: from a write that is right for it.
+fn values_read(
     order: &[u8; CAPACITY],
     len: usize,
     readers: u32,
     rivals: &[u32; CAPACITY],
     own: &[u32; CAPACITY],
-    initial: &[u16; CAPACITY],
-    written: &[u16; CAPACITY],
-    stated: &[u16; CAPACITY],
+    right: &[u32; CAPACITY],
 ) -> bool
     requires { ⌜ Listed (now order) len ⌝ }
     ensures { λ b. ⌜ b ≡
-        valuesReadBy readers (now (rivals .entry)) (now (own .entry)) (now (initial .entry)) (now (written .entry))
-        (now (stated .entry)) (take len (now (order .entry))) ⌝ }
+        valuesReadBy readers (now (rivals .entry)) (now (own .entry)) (now (right .entry)) (take len (now (order .entry))) ⌝ }
 {
     let mut left = readers;
     while left != 0 {
         let r = masks::lowest_set(left);
         let k = r as usize;
         let w = return_of(order, len, r as u8, rivals[k], own[k]);
-        if !leaves(written, initial[k], w, stated[k]) {
+        if !masks::has(right[k], w as u32) {
             return false;
         }
         left = left ^ masks::one(r);
@@ -91,32 +76,51 @@ pub fn values_read(
     true
 }
 
-// Each stated final value is that of its location's last write. All arrays but `written` have an entry for each location.
-pub fn final_values(
+// Each stated final value is that of its location's last write.
+fn final_values(
     order: &[u8; CAPACITY],
     len: usize,
-    locations: u8,
-    stated: u8,
+    finals: u32,
     writers: &[u32; EditionOne::LOCATIONS],
-    initial: &[u16; EditionOne::LOCATIONS],
-    written: &[u16; CAPACITY],
-    finals: &[u16; EditionOne::LOCATIONS],
+    lasting: &[u32; EditionOne::LOCATIONS],
 ) -> bool
-    requires { ⌜ Listed (now order) len × (locations ≤ maxLocations) ⌝ }
+    requires { ⌜ Listed (now order) len × (finals < 2 ^ maxLocations) ⌝ }
     ensures { λ b. ⌜ b ≡
-        finalValuesBy locations stated (now (writers .entry)) (now (initial .entry)) (now (written .entry))
-        (now (finals .entry)) (take len (now (order .entry))) ⌝ }
+        finalValuesBy finals (now (writers .entry)) (now (lasting .entry)) (take len (now (order .entry))) ⌝ }
 {
-    let mut x: u8 = 0;
-    while x < locations {
-        if masks::has(stated as u32, x as u32) {
-            let k = x as usize;
-            let w = last_write(order, len, writers[k]);
-            if !leaves(written, initial[k], w, finals[k]) {
-                return false;
-            }
+    let mut left = finals;
+    while left != 0 {
+        let x = masks::lowest_set(left);
+        let k = x as usize;
+        let w = last_write(order, len, writers[k]);
+        if !masks::has(lasting[k], w as u32) {
+            return false;
         }
-        x += 1;
+        left = left ^ masks::one(x);
     }
     true
+}
+
+// All values of the order are the stated ones.
+pub fn agree(
+    order: &[u8; CAPACITY],
+    len: usize,
+    readers: u32,
+    rivals: &[u32; CAPACITY],
+    own: &[u32; CAPACITY],
+    right: &[u32; CAPACITY],
+    finals: u32,
+    writers: &[u32; EditionOne::LOCATIONS],
+    lasting: &[u32; EditionOne::LOCATIONS],
+) -> bool
+    requires { ⌜ Listed (now order) len × (finals < 2 ^ maxLocations) ⌝ }
+    ensures { λ b. ⌜ b ≡
+        (valuesReadBy readers (now (rivals .entry)) (now (own .entry)) (now (right .entry)) (take len (now (order .entry)))
+        && finalValuesBy finals (now (writers .entry)) (now (lasting .entry)) (take len (now (order .entry)))) ⌝ }
+{
+    if values_read(order, len, readers, rivals, own, right) {
+        final_values(order, len, finals, writers, lasting)
+    } else {
+        false
+    }
 }

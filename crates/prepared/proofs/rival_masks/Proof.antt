@@ -3,7 +3,7 @@ use mathlib.Core.Logic.{⊎-elim}
 use mathlib.Core.Path.{sym, _∙_}
 use native.Mathlib.Omega.{arith}
 use Rattle.table.specs.Events.{capacity, reads, writes, sameLocation, location, kind, event}
-use Rattle.prepared.specs.Prepared.{rival, rivalsOf, perEvent}
+use Rattle.prepared.specs.Prepared.{rival, rivalsOf, padded}
 use Rattle.prepared.proofs.PreparedLaws.{no-rivals}
 use Rattle.prepared.proofs.FillLaws.{fill-skip, Filled, fill-start, fill-more, fill-end}
 use Rattle.prepared.proofs.GatherLaws.{Gathered, gather-start, gather-more, gather-end}
@@ -94,7 +94,7 @@ readers-again c =
     (c .if1 .came)
 
 returns : tie.Need-returns Inv-loop μ-loop Inv-readers μ-readers
-unfolding perEvent
+unfolding padded
 returns c = fill-end _ _ _ _ _ (c .before .readers .inv) (omega arith)
 
 pub rival-masks-spec : {M : Type 1} → statement M

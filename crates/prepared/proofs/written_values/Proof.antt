@@ -2,7 +2,7 @@ use Prim.Native.Nat.{ℕ, _-_}
 use mathlib.Core.Path.{refl}
 use native.Mathlib.Omega.{arith}
 use Rattle.table.specs.Events.{capacity, event}
-use Rattle.prepared.specs.Prepared.{perEvent}
+use Rattle.prepared.specs.Prepared.{padded}
 use Rattle.prepared.proofs.FillLaws.{Filled, fill-start, fill-more, fill-end}
 use borrow.Author.Needs.{needs}
 use Rattle.prepared.proofs.written_values.Statement.{statement}
@@ -48,7 +48,7 @@ loop-again c =
     fill-more _ _ _ _ _ _ (c .before .before .pre) (v .inv) (omega arith) refl
 
 returns : tie.Need-returns Inv-loop μ-loop
-unfolding perEvent
+unfolding padded
 returns c = fill-end _ _ _ _ _ (c .before .loop .inv) (omega arith)
 
 pub written-values-spec : {M : Type 1} → statement M

@@ -1,37 +1,40 @@
-use Rattle.search.proofs.CallLaws.{ran-as}
 use Prim.Native.Nat.{ℕ, suc, _+_, _-_, _≤_}
 use mathlib.Core.Path.{_≡_, ap, sym, subst, _∙_}
 use mathlib.Core.Bool.{true, false}
 use native.Mathlib.Omega.{arith}
 use native.Mathlib.Numerals.{add-one}
 use native.Mathlib.Nat.{sub-zero}
-use borrow.Author.Tests.{not-true}
-use lib.ListN.{take, set, length-take}
+use lib.ListN.{take, set}
 use lib.Count.{ones, ones-le}
+use borrow.Author.Tests.{not-true}
+use Rattle.prefixes.specs.Answer.{found, spent}
 use Rattle.model.specs.Witness.{isOrder, witness}
-use Rattle.prefixes.specs.Answer.{found, noneLeft, spent}
 use Rattle.engine.specs.State.{Moved, NextIs, Holds}
-use Rattle.search.specs.Running.{searchFrom}
-use Rattle.values.proofs.OrderLaws.{order-listed}
 use Rattle.values.specs.QuickTest.{Listed}
-use Rattle.search.proofs.WitnessLaws.{value-differs, final-differs}
+use Rattle.values.proofs.OrderLaws.{order-listed}
+use Rattle.search.specs.Running.{searchFrom}
+use Rattle.search.proofs.CallLaws.{ran-as}
+use Rattle.search.proofs.WitnessLaws.{value-differs, final-room}
 use Rattle.search.proofs.RunLaws.{total-ones, held-clean, held-long, held-short, run-none, run-spent, run-found, run-on, whole-is-order, part-is-none}
 use borrow.Author.Needs.{needs}
 use Rattle.search.proofs.walk.Statement.{statement}
 use Rattle.search.proofs.walk.Tie as tie
 
 abbrev Inv-loop : tie.InvT-loop
-Inv-loop t pred succ mem readers rivals own initial written stated writers starts finals order₀ start first ready budget total len₀ placed₀ can₀ visited₀ order len placed can visited = (visited ≤ budget) × Holds pred mem order len placed can × (searchFrom t (take start order₀) budget 0 ≡ searchFrom t (take len order) (budget - visited) visited)
+Inv-loop t pred succ mem readers rivals own right finals writers lasting order₀ start budget total len₀ masks₀ visited₀ order len masks visited =
+    (visited ≤ budget) × Holds pred mem order len (masks .placed) (masks .can)
+    × (searchFrom t (take len₀ order₀) budget 0 ≡ searchFrom t (take len order) (budget - visited) visited)
 
 abbrev μ-loop : tie.MeasureT-loop
-μ-loop t pred succ mem readers rivals own initial written stated writers starts finals order₀ start first ready budget total len₀ placed₀ can₀ visited₀ order len placed can visited = budget - visited
+μ-loop t pred succ mem readers rivals own right finals writers lasting order₀ start budget total len₀ masks₀ visited₀ order len masks visited =
+    budget - visited
 
 -- the engine's next step, once it is known to place an event
 moved : (c : tie.After-step Inv-loop μ-loop) →
     let v = c .before .before .before .before .loop in
     let a = c .before .before .before .before .before .args in
     let g = c .step .given .0 in
-    Moved (a .pred .now) (a .mem) (v .order) (v .len) (g .0) (g .1 .0) (g .1 .1 .0) (g .1 .1 .1 .0)
+    Moved (a .pred .now) (a .mem) (v .order) (v .len) (g .0) (g .1 .0) (g .1 .1 .0 .placed) (g .1 .1 .0 .can)
 moved c =
     let v = c .before .before .before .before .loop in
     let a = c .before .before .before .before .before .args in
@@ -51,7 +54,7 @@ onward : (c : tie.Else1 Inv-loop μ-loop) →
     let g = c .before .before .step .given .0 in
     let o = set (v .order) (g .0) (g .1 .0) in
     witness (a .t) (take (g .0 + 1) o) ≡ false →
-    (v .visited + 1 ≤ a .budget) × Holds (a .pred .now) (a .mem) o (g .0 + 1) (g .1 .1 .0) (g .1 .1 .1 .0)
+    (v .visited + 1 ≤ a .budget) × Holds (a .pred .now) (a .mem) o (g .0 + 1) (g .1 .1 .0 .placed) (g .1 .1 .0 .can)
     × (searchFrom (a .t) (take (a .start) (a .order .now)) (a .budget) 0 ≡ searchFrom (a .t) (take (g .0 + 1) o) (a .budget - (v .visited + 1)) (v .visited + 1))
 onward c w =
     let v = c .before .before .before .before .before .before .loop in
@@ -66,26 +69,27 @@ onward c w =
     )
 
 -- the prefix visited has all memory events: it is an order
-whole : (c : tie.Else2 Inv-loop μ-loop) →
-    let v = c .before .before .before .before .before .before .before .loop in
-    let a = c .before .before .before .before .before .before .before .before .args in
-    let g = c .before .before .before .step .given .0 in
-    isOrder (a .t) (take (g .0 + 1) (set (v .order) (g .0) (g .1 .0))) ≡ true
-whole c =
-    let s = c .before .before .before .before .before .before .before .before in
-    let m = moved (c .before .before .before) in
+whole : (c : tie.Else1 Inv-loop μ-loop) →
+    let v = c .before .before .before .before .before .before .loop in
+    let a = c .before .before .before .before .before .before .before .args in
+    let g = c .before .before .step .given .0 in
+    g .0 + 1 ≡ ones (a .mem) → isOrder (a .t) (take (g .0 + 1) (set (v .order) (g .0) (g .1 .0))) ≡ true
+whole c e =
+    let s = c .before .before .before .before .before .before .before in
+    let m = moved (c .before .before) in
     whole-is-order _ (s .pre .0 .0 .small) _ (held-clean (s .pre .0 .0) (m .holds))
-    (held-long (s .pre .0 .0) (m .holds) ∙ c .if2 .left ∙ total-ones (s .pre .0 .0))
+    (held-long (s .pre .0 .0) (m .holds) ∙ e ∙ total-ones (s .pre .0 .0))
 
 -- so the scans may go over it
-listed : (c : tie.Else2 Inv-loop μ-loop) →
-    let v = c .before .before .before .before .before .before .before .loop in
-    let g = c .before .before .before .step .given .0 in
-    Listed (set (v .order) (g .0) (g .1 .0)) (g .0 + 1)
-listed c =
-    let s = c .before .before .before .before .before .before .before .before in
-    let m = moved (c .before .before .before) in
-    order-listed _ _ _ (omega (arith, s .pre .0 .0 .small .events)) (m .holds .long) (omega (arith, m .room)) (whole c)
+listed : (c : tie.Else1 Inv-loop μ-loop) →
+    let v = c .before .before .before .before .before .before .loop in
+    let a = c .before .before .before .before .before .before .before .args in
+    let g = c .before .before .step .given .0 in
+    g .0 + 1 ≡ ones (a .mem) → Listed (set (v .order) (g .0) (g .1 .0)) (g .0 + 1)
+listed c e =
+    let s = c .before .before .before .before .before .before .before in
+    let m = moved (c .before .before) in
+    order-listed _ _ _ (omega (arith, s .pre .0 .0 .small .events)) (m .holds .long) (omega (arith, m .room)) (whole c e)
 
 cast-total : tie.Need-cast-total Inv-loop μ-loop
 cast-total c = omega (arith, ones-le 32 (c .args .mem) (omega arith))
@@ -119,11 +123,12 @@ spent-requires c κs = search needs
 returns-2 : tie.Need-returns-2 Inv-loop μ-loop
 returns-2 c =
     let v = c .before .before .before .before .before .before .before .loop in
+    let s = c .before .before .before .before .before .before .before .before in
     ran-as (c .spent .ensures) record {
-      answer = sym (v .inv .2 ∙ run-spent (c .before .before .before .before .before .before .before .before .pre .0 .0) (v .inv .1) (moved (c .before .before .before)) _ _ (omega arith)
+      answer = sym (v .inv .2 ∙ run-spent (s .pre .0 .0) (v .inv .1) (moved (c .before .before .before)) _ _ (omega arith)
           ∙ ap (λ (n : ℕ). spent (take n (v .order)) (v .visited)) (v .inv .1 .counted));
       long = v .inv .1 .long;
-      short = held-short (c .before .before .before .before .before .before .before .before .pre .0 .0) (v .inv .1);
+      short = held-short (s .pre .0 .0) (v .inv .1);
     }
 
 element-write-order : tie.Need-element-write-order Inv-loop μ-loop
@@ -142,57 +147,56 @@ loop-less c = search needs
 
 loop-again : tie.Need-loop-again Inv-loop μ-loop
 loop-again c =
-    let s = c .before .before .before .before .before .before .before .before in
-    onward (c .before) (part-is-none _ _ (λ e. c .if2 .taken (sym (held-long (s .pre .0 .0) (moved (c .before .before .before) .holds)) ∙ e ∙ sym (total-ones (s .pre .0 .0)))))
+    let e = c .before in
+    let s = e .before .before .before .before .before .before .before in
+    onward e (part-is-none _ _ (λ q. c .if2 .taken (sym (held-long (s .pre .0 .0) (moved (e .before .before) .holds)) ∙ q ∙ sym (total-ones (s .pre .0 .0)))))
 
-values-read-requires : tie.Need-values-read-requires Inv-loop μ-loop
-values-read-requires c κs = listed (c .before)
+agree-requires : tie.Need-agree-requires Inv-loop μ-loop
+agree-requires c κs =
+    let e = c .before .before in
+    let s = e .before .before .before .before .before .before .before in
+    (listed e (c .before .if2 .left), final-room (s .pre .0 .0 .small) (s .pre .1))
 
 loop-less-2 : tie.Need-loop-less-2 Inv-loop μ-loop
 loop-less-2 c = search needs
 
 loop-again-2 : tie.Need-loop-again-2 Inv-loop μ-loop
 loop-again-2 c =
-    let s = c .before .before .before .before .before .before .before .before .before .before .before in
-    onward (c .before .before .before .before) (value-differs (s .pre .0 .0 .small) (s .pre .1) _ (whole (c .before .before .before)) (sym (c .before .values-read .ensures) ∙ not-true _ (c .if3 .taken)))
-
-final-values-requires : tie.Need-final-values-requires Inv-loop μ-loop
-final-values-requires c κs = (listed (c .before .before .before .before), c .before .before .before .before .before .before .before .before .before .before .before .before .pre .0 .0 .small .locations)
-
-loop-less-3 : tie.Need-loop-less-3 Inv-loop μ-loop
-loop-less-3 c = search needs
-
-loop-again-3 : tie.Need-loop-again-3 Inv-loop μ-loop
-loop-again-3 c =
-    let s = c .before .before .before .before .before .before .before .before .before .before .before .before .before .before in
-    onward (c .before .before .before .before .before .before .before) (final-differs (s .pre .0 .0 .small) (s .pre .1) _ (whole (c .before .before .before .before .before .before)) (sym (c .before .final-values .ensures) ∙ not-true _ (c .if4 .taken)))
+    let e = c .before .before .before .before in
+    let s = e .before .before .before .before .before .before .before in
+    onward e (value-differs (s .pre .0 .0 .small) (s .pre .1) _ (whole e (c .before .before .before .if2 .left)) (sym (c .before .agree .ensures) ∙ not-true _ (c .if3 .taken)))
 
 is-witness-requires : tie.Need-is-witness-requires Inv-loop μ-loop
 is-witness-requires c κs =
-    let m = moved (c .before .before .before .before .before .before .before .before .before .before) in
-    (c .before .before .before .before .before .before .before .before .before .before .before .before .before .before .before .pre .0 .0 .small, m .holds .long, omega (arith, m .room), whole (c .before .before .before .before .before .before .before))
+    let e = c .before .before .before .before .before in
+    let s = e .before .before .before .before .before .before .before in
+    let m = moved (e .before .before) in
+    (s .pre .0 .0 .small, m .holds .long, omega (arith, m .room), whole e (c .before .before .before .before .if2 .left))
 
 found-requires : tie.Need-found-requires Inv-loop μ-loop
 found-requires c κs = search needs
 
 returns-3 : tie.Need-returns-3 Inv-loop μ-loop
 returns-3 c =
-    let v = c .before .before .before .before .before .before .before .before .before .before .before .before .before .before .before .before .before .loop in
-    let s = c .before .before .before .before .before .before .before .before .before .before .before .before .before .before .before .before .before .before in
-    let m = moved (c .before .before .before .before .before .before .before .before .before .before .before .before .before) in
+    let e = c .before .before .before .before .before .before .before .before in
+    let v = e .before .before .before .before .before .before .loop in
+    let s = e .before .before .before .before .before .before .before in
+    let g = e .before .before .step .given .0 in
+    let o = set (v .order) (g .0) (g .1 .0) in
+    let m = moved (e .before .before) in
     ran-as (c .found .ensures) record {
-      answer = sym (v .inv .2 ∙ run-found (s .pre .0 .0) (v .inv .1) m _ _ (s .args .budget - (v .visited + 1)) (budget-left (c .before .before .before .before .before .before .before .before .before .before .before)) (sym (c .before .before .is-witness .ensures) ∙ c .before .if5 .taken)
-          ∙ ap (λ (n : ℕ). found (take n (set (v .order) (c .before .before .before .before .before .before .before .before .before .before .before .before .before .step .given .0 .0) (c .before .before .before .before .before .before .before .before .before .before .before .before .before .step .given .0 .1 .0))) (suc (v .visited))) (m .holds .counted)
-          ∙ ap (found (take (ones (c .before .before .before .before .before .before .before .before .before .before .before .before .before .step .given .0 .1 .1 .0)) (set (v .order) (c .before .before .before .before .before .before .before .before .before .before .before .before .before .step .given .0 .0) (c .before .before .before .before .before .before .before .before .before .before .before .before .before .step .given .0 .1 .0)))) (sym (add-one (v .visited))));
+      answer = sym (v .inv .2 ∙ run-found (s .pre .0 .0) (v .inv .1) m _ _ (s .args .budget - (v .visited + 1)) (budget-left e) (sym (c .before .before .is-witness .ensures) ∙ c .before .if4 .taken)
+          ∙ ap (λ (n : ℕ). found (take n o) (suc (v .visited))) (m .holds .counted)
+          ∙ ap (found (take (ones (g .1 .1 .0 .placed)) o)) (sym (add-one (v .visited))));
       long = m .holds .long;
       short = held-short (s .pre .0 .0) (m .holds);
     }
 
-loop-less-4 : tie.Need-loop-less-4 Inv-loop μ-loop
-loop-less-4 c = search needs
+loop-less-3 : tie.Need-loop-less-3 Inv-loop μ-loop
+loop-less-3 c = search needs
 
-loop-again-4 : tie.Need-loop-again-4 Inv-loop μ-loop
-loop-again-4 c = onward (c .before .before .before .before .before .before .before .before .before .before) (sym (c .before .is-witness .ensures) ∙ c .if5 .left)
+loop-again-3 : tie.Need-loop-again-3 Inv-loop μ-loop
+loop-again-3 c = onward (c .before .before .before .before .before .before .before) (sym (c .before .is-witness .ensures) ∙ c .if4 .left)
 
 pub walk-spec : {M : Type 1} → statement M
 walk-spec =
@@ -213,14 +217,11 @@ walk-spec =
     add-visited
     loop-less
     loop-again
-    values-read-requires
+    agree-requires
     loop-less-2
     loop-again-2
-    final-values-requires
-    loop-less-3
-    loop-again-3
     is-witness-requires
     found-requires
     returns-3
-    loop-less-4
-    loop-again-4)
+    loop-less-3
+    loop-again-3)

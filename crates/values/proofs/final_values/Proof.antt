@@ -1,36 +1,40 @@
--- `final_values`: the locations passed have their stated final values.
-use Prim.Native.Nat.{_-_}
-use mathlib.Core.Logic.{⊎-elim}
-use mathlib.Core.Bool.{Bool, true, false, not, _&&_}
-use mathlib.Core.Path.{_≡_, ap, sym}
+use Prim.Native.Nat.{_<_, _^_}
+use mathlib.Core.Path.{ap, sym}
+use mathlib.Core.Bool.{not}
 use native.Mathlib.Omega.{arith}
 use lib.ListN.{take}
-use Rattle.lists.proofs.BoolLaws.{and-left}
-use Rattle.lists.proofs.ScanLaws.{Scanned, scan-start, scan-more, some-hit, some-end}
+use Rattle.masks.proofs.WithinLaws.{bit-below}
+use Rattle.edition.specs.Limits.{maxLocations}
+use Rattle.table.specs.Events.{capacity}
 use Rattle.values.specs.QuickTest.{finalValuesBy, breaksFinalBy}
+use Rattle.values.proofs.LeftLaws.{Left, left-lowest, left-hit, left-more, left-less, left-end}
+use Rattle.values.proofs.OrderLaws.{last-fits}
 use borrow.Author.Needs.{needs}
 use Rattle.values.proofs.final_values.Statement.{statement}
 use Rattle.values.proofs.final_values.Tie as tie
 
 abbrev Inv-loop : tie.InvT-loop
-Inv-loop order len locations stated writers initial written finals x₀ x =
-    Scanned (breaksFinalBy stated writers initial written finals (take len order)) locations x
+Inv-loop order len finals writers lasting left₀ left =
+    Left (breaksFinalBy writers lasting (take len order)) capacity finals left × (left < 2 ^ maxLocations)
 
 abbrev μ-loop : tie.MeasureT-loop
-μ-loop order len locations stated writers initial written finals x₀ x = locations - x
+μ-loop order len finals writers lasting left₀ left = left
 
--- where the first test passed, the second decides
-second : {a b : Bool} (v : Bool) → a ≡ true → b ≡ v → (a && b) ≡ v
-second v p q = rw (p, q)
+-- the lowest bit left is a location
+lowest : (c : tie.After-lowest-set Inv-loop μ-loop) → c .lowest-set .result < maxLocations
+lowest c =
+    let i = c .before .before .loop .inv in
+    bit-below maxLocations _ _ (i .1) (left-lowest _ _ _ _ _ (i .0) (omega arith) (c .lowest-set .ensures) .1)
+
+-- its last write has room in a mask
+fits : (c : tie.After-last-write Inv-loop μ-loop) → c .last-write .result < capacity
+fits c = rw (c .last-write .ensures) (last-fits _ _ _ (c .before .before .before .before .before .pre .0))
 
 loop-holds : tie.Need-loop-holds Inv-loop μ-loop
-loop-holds c = scan-start _ _
+loop-holds c = search needs
 
-cast-has : tie.Need-cast-has Inv-loop μ-loop
-cast-has c = search needs
-
-has-requires : tie.Need-has-requires Inv-loop μ-loop
-has-requires c κs = search needs
+lowest-set-requires : tie.Need-lowest-set-requires Inv-loop μ-loop
+lowest-set-requires c κs = search needs
 
 cast-k : tie.Need-cast-k Inv-loop μ-loop
 cast-k c = search needs
@@ -39,55 +43,54 @@ mul-last-write : tie.Need-mul-last-write Inv-loop μ-loop
 mul-last-write c = search needs
 
 element-copy-out-last-write : tie.Need-element-copy-out-last-write Inv-loop μ-loop
-element-copy-out-last-write c = search needs
+element-copy-out-last-write c = lowest c
 
 last-write-requires : tie.Need-last-write-requires Inv-loop μ-loop
 last-write-requires c κs = search needs
 
-mul-leaves : tie.Need-mul-leaves Inv-loop μ-loop
-mul-leaves c = search needs
+mul-has : tie.Need-mul-has Inv-loop μ-loop
+mul-has c = search needs
 
-element-copy-out-leaves : tie.Need-element-copy-out-leaves Inv-loop μ-loop
-element-copy-out-leaves c = search needs
+element-copy-out-has : tie.Need-element-copy-out-has Inv-loop μ-loop
+element-copy-out-has c = lowest (c .before .before)
 
-mul-leaves-2 : tie.Need-mul-leaves-2 Inv-loop μ-loop
-mul-leaves-2 c = search needs
+cast-has : tie.Need-cast-has Inv-loop μ-loop
+cast-has c = omega (arith, fits (c .before))
 
-element-copy-out-leaves-2 : tie.Need-element-copy-out-leaves-2 Inv-loop μ-loop
-element-copy-out-leaves-2 c = search needs
-
-leaves-requires : tie.Need-leaves-requires Inv-loop μ-loop
-leaves-requires c κs = search needs
+has-requires : tie.Need-has-requires Inv-loop μ-loop
+has-requires c κs = fits (c .before)
 
 returns : tie.Need-returns Inv-loop μ-loop
 unfolding finalValuesBy breaksFinalBy
 returns c =
-    let k = c .before .before .before .before .before .before in
+    let k = c .before .before .before .before .before in
     sym
     (ap not
-    (some-hit _ _ _ (k .before .before .before .loop .inv) (omega arith)
-    (second true (rw (k .before .has .ensures) at (k .if1 .taken))
-    (rw (c .before .leaves .ensures, c .before .before .before .before .last-write .ensures) at (c .if2 .taken)))))
+    (left-hit _ _ _ _ _ (k .before .before .loop .inv .0) (omega arith) (k .lowest-set .ensures)
+    (rw (c .before .has .ensures, c .before .before .before .last-write .ensures) at (c .if1 .taken))))
 
-add-x : tie.Need-add-x Inv-loop μ-loop
-add-x c = search needs
+one-requires : tie.Need-one-requires Inv-loop μ-loop
+one-requires c κs = omega (arith, lowest (c .before .before .before .before .before))
 
 loop-less : tie.Need-loop-less Inv-loop μ-loop
-loop-less c = search needs
+loop-less c =
+    let k = c .before .before .before .before .before .before in
+    left-less _ _ _ _ _ (k .before .before .loop .inv .0) (omega arith) (k .lowest-set .ensures) _ (c .one .ensures)
 
 loop-again : tie.Need-loop-again Inv-loop μ-loop
 unfolding breaksFinalBy
 loop-again c =
-    let k = c .before in
-    ⊎-elim
-    (λ w. scan-more _ _ _ (k .before .before .loop .inv) (omega arith)
-    (second false (rw (k .has .ensures) at (w .0 .taken)) (rw (w .5 .ensures, w .2 .ensures) at (w .6 .left))))
-    (λ w. scan-more _ _ _ (k .before .before .loop .inv) (omega arith) (sym (and-left _ _ (rw (k .has .ensures) at (w .left)))))
-    (c .if1 .came)
+    let k = c .before .before .before .before .before .before in
+    let i = k .before .before .loop .inv in
+    let less = left-less _ _ _ _ _ (i .0) (omega arith) (k .lowest-set .ensures) _ (c .one .ensures) in (
+      left-more _ _ _ _ _ (i .0) (omega arith) (k .lowest-set .ensures) _ (c .one .ensures)
+          (rw (c .before .before .has .ensures, c .before .before .before .before .last-write .ensures) at (c .before .if1 .left)),
+      omega (arith, less),
+    )
 
 returns-2 : tie.Need-returns-2 Inv-loop μ-loop
 unfolding finalValuesBy
-returns-2 c = sym (ap not (some-end _ _ _ (c .before .loop .inv) (omega arith)))
+returns-2 c = sym (ap not (left-end _ _ _ _ (c .before .loop .inv .0) (c .loop-test .left)))
 
 pub final-values-spec : {M : Type 1} → statement M
 final-values-spec =
@@ -96,19 +99,17 @@ final-values-spec =
     Inv-loop
     μ-loop
     loop-holds
-    cast-has
-    has-requires
+    lowest-set-requires
     cast-k
     mul-last-write
     element-copy-out-last-write
     last-write-requires
-    mul-leaves
-    element-copy-out-leaves
-    mul-leaves-2
-    element-copy-out-leaves-2
-    leaves-requires
+    mul-has
+    element-copy-out-has
+    cast-has
+    has-requires
     returns
-    add-x
+    one-requires
     loop-less
     loop-again
     returns-2)

@@ -2,7 +2,7 @@
 use Prim.Native.Nat.{_-_}
 use native.Mathlib.Omega.{arith}
 use Rattle.masks.specs.Bit.{bit}
-use Rattle.model.specs.Rules.{initially}
+use Rattle.prepared.specs.Prepared.{initialSlot}
 use Rattle.values.proofs.LastLaws.{Behind, behind-start, behind-more, behind-hit, behind-end}
 use Rattle.values.proofs.OrderLaws.{listed-at}
 use borrow.Author.Needs.{needs}
@@ -10,7 +10,7 @@ use Rattle.values.proofs.last_write.Statement.{statement}
 use Rattle.values.proofs.last_write.Tie as tie
 
 abbrev Inv-loop : tie.InvT-loop
-Inv-loop order len writers i₀ i = Behind (bit writers) initially order len i
+Inv-loop order len writers i₀ i = Behind (bit writers) initialSlot order len i
 
 abbrev μ-loop : tie.MeasureT-loop
 μ-loop order len writers i₀ i = i

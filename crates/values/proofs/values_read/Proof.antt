@@ -1,26 +1,31 @@
--- `values_read`: the readers taken from the mask return their stated values.
 use Prim.Native.Nat.{_<_}
-use mathlib.Core.Bool.{not}
 use mathlib.Core.Path.{ap, sym}
+use mathlib.Core.Bool.{not}
 use native.Mathlib.Omega.{arith}
 use lib.ListN.{take}
 use Rattle.table.specs.Events.{capacity}
-use Rattle.values.specs.QuickTest.{valuesReadBy, breaksReadBy}
+use Rattle.values.specs.QuickTest.{returnBy, valuesReadBy, breaksReadBy}
 use Rattle.values.proofs.LeftLaws.{Left, left-lowest, left-hit, left-more, left-less, left-end}
+use Rattle.values.proofs.OrderLaws.{last-fits}
 use borrow.Author.Needs.{needs}
 use Rattle.values.proofs.values_read.Statement.{statement}
 use Rattle.values.proofs.values_read.Tie as tie
 
 abbrev Inv-loop : tie.InvT-loop
-Inv-loop order len readers rivals own initial written stated left₀ left =
-    Left (breaksReadBy rivals own initial written stated (take len order)) capacity readers left
+Inv-loop order len readers rivals own right left₀ left =
+    Left (breaksReadBy rivals own right (take len order)) capacity readers left
 
 abbrev μ-loop : tie.MeasureT-loop
-μ-loop order len readers rivals own initial written stated left₀ left = left
+μ-loop order len readers rivals own right left₀ left = left
 
 -- the lowest reader left is an event
 lowest : (c : tie.After-lowest-set Inv-loop μ-loop) → c .lowest-set .result < capacity
 lowest c = left-lowest _ _ _ _ _ (c .before .before .loop .inv) (omega arith) (c .lowest-set .ensures) .0
+
+-- what it returns from has room in a mask
+fits : (c : tie.After-return-of Inv-loop μ-loop) → c .return-of .result < capacity
+unfolding returnBy
+fits c = rw (c .return-of .ensures) (last-fits _ _ _ (c .before .before .before .before .before .before .pre))
 
 loop-holds : tie.Need-loop-holds Inv-loop μ-loop
 loop-holds c = search needs
@@ -49,44 +54,41 @@ element-copy-out-return-of-2 c = lowest (c .before)
 return-of-requires : tie.Need-return-of-requires Inv-loop μ-loop
 return-of-requires c κs = search needs
 
-mul-leaves : tie.Need-mul-leaves Inv-loop μ-loop
-mul-leaves c = search needs
+mul-has : tie.Need-mul-has Inv-loop μ-loop
+mul-has c = search needs
 
-element-copy-out-leaves : tie.Need-element-copy-out-leaves Inv-loop μ-loop
-element-copy-out-leaves c = lowest (c .before .before .before)
+element-copy-out-has : tie.Need-element-copy-out-has Inv-loop μ-loop
+element-copy-out-has c = lowest (c .before .before .before)
 
-mul-leaves-2 : tie.Need-mul-leaves-2 Inv-loop μ-loop
-mul-leaves-2 c = search needs
+cast-has : tie.Need-cast-has Inv-loop μ-loop
+cast-has c = omega (arith, fits (c .before))
 
-element-copy-out-leaves-2 : tie.Need-element-copy-out-leaves-2 Inv-loop μ-loop
-element-copy-out-leaves-2 c = lowest (c .before .before .before .before)
-
-leaves-requires : tie.Need-leaves-requires Inv-loop μ-loop
-leaves-requires c κs = search needs
+has-requires : tie.Need-has-requires Inv-loop μ-loop
+has-requires c κs = fits (c .before)
 
 returns : tie.Need-returns Inv-loop μ-loop
 unfolding valuesReadBy breaksReadBy
 returns c =
-    let k = c .before .before .before .before .before .before .before in
+    let k = c .before .before .before .before .before .before in
     sym
     (ap not
     (left-hit _ _ _ _ _ (k .before .before .loop .inv) (omega arith) (k .lowest-set .ensures)
-    (rw (c .before .leaves .ensures, c .before .before .before .before .return-of .ensures) at (c .if1 .taken))))
+    (rw (c .before .has .ensures, c .before .before .before .return-of .ensures) at (c .if1 .taken))))
 
 one-requires : tie.Need-one-requires Inv-loop μ-loop
-one-requires c κs = lowest (c .before .before .before .before .before .before .before)
+one-requires c κs = lowest (c .before .before .before .before .before .before)
 
 loop-less : tie.Need-loop-less Inv-loop μ-loop
 loop-less c =
-    let k = c .before .before .before .before .before .before .before .before in
+    let k = c .before .before .before .before .before .before .before in
     left-less _ _ _ _ _ (k .before .before .loop .inv) (omega arith) (k .lowest-set .ensures) _ (c .one .ensures)
 
 loop-again : tie.Need-loop-again Inv-loop μ-loop
 unfolding breaksReadBy
 loop-again c =
-    let k = c .before .before .before .before .before .before .before .before in
+    let k = c .before .before .before .before .before .before .before in
     left-more _ _ _ _ _ (k .before .before .loop .inv) (omega arith) (k .lowest-set .ensures) _ (c .one .ensures)
-    (rw (c .before .before .leaves .ensures, c .before .before .before .before .before .return-of .ensures) at (c .before .if1 .left))
+    (rw (c .before .before .has .ensures, c .before .before .before .before .return-of .ensures) at (c .before .if1 .left))
 
 returns-2 : tie.Need-returns-2 Inv-loop μ-loop
 unfolding valuesReadBy
@@ -107,11 +109,10 @@ values-read-spec =
     mul-return-of-2
     element-copy-out-return-of-2
     return-of-requires
-    mul-leaves
-    element-copy-out-leaves
-    mul-leaves-2
-    element-copy-out-leaves-2
-    leaves-requires
+    mul-has
+    element-copy-out-has
+    cast-has
+    has-requires
     returns
     one-requires
     loop-less
