@@ -2,7 +2,7 @@
  * Decides the test in a block file: prints whether the outcome is allowed, and exits with a status that says so.
  *
  *   gcc -std=c11 -O2 -Iinclude -o target/decide examples/decide.c target/staticlib/libcapi.a
- *   target/decide rust/samples/message-passing.block
+ *   target/decide samples/C1.block
  */
 #include <cogthunder.h>
 

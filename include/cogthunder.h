@@ -39,6 +39,10 @@ extern "C" {
 /* The length of a block. */
 #define CT_BLOCK 512u
 
+/* How many locations a table has values for, and how many events it has room for. */
+#define CT_LOCATIONS 8u
+#define CT_SLOTS 32u
+
 /* A test has at most this many events: the entries of a returned list, and of an order. */
 #define CT_EVENTS 16u
 
@@ -73,8 +77,39 @@ enum ct_case {
 #define CT_BYTE3(word) ((unsigned)((word) >> 24 & 0xff))
 #define CT_VISITED(word) ((uint32_t)((word) >> 32))
 
+/* An event of a table. Bit k of a mask (bit 0 lowest) names event k. */
+struct ct_event {
+    uint8_t kind;     /* 1 load, 2 store, 3 AMO, 4 LR, 5 SC, 6 fence, 7 fence.tso */
+    uint8_t hart;
+    uint8_t location;
+    uint8_t flags;    /* as in a block */
+    uint32_t addr;    /* mask of the events that the address depends on */
+    uint32_t data;    /* .. that the data depend on */
+    uint32_t ctrl;    /* .. that it has a control dependency on */
+    uint16_t read;    /* the value read, 0 if nothing reads */
+    uint16_t written; /* the value written, 0 if nothing writes */
+};
+
+/* A test by value: 676 bytes without padding. What a test doesn't use is zero, slots past its events too. */
+struct ct_table {
+    uint8_t harts;
+    uint8_t locations;
+    uint8_t count;  /* of events */
+    uint8_t stated; /* mask of the locations whose final value is stated */
+    uint16_t initial[CT_LOCATIONS];
+    struct ct_event events[CT_SLOTS];
+    uint16_t finals[CT_LOCATIONS];
+};
+
 /* Reads a block. Case 0: the test is good. Case 1: refusal 1 to 11. */
 uint64_t ct_read(const uint8_t *block, size_t block_len);
+
+/*
+ * Writes the block of a table to `out`, which has CT_BLOCK bytes. Any numbers may stand in the table. Case 1: refusal 1 if
+ * `out` has another length, else 5 to 11, the numbers and records by which reading refuses. Case 0: written. Reading the
+ * block then gives case 0, and it is the only block of this table.
+ */
+uint64_t ct_write(struct ct_table table, uint8_t *out, size_t out_len);
 
 /*
  * The verdict for a candidate. `returned` has an entry for each event: the writer that a reader returns from,

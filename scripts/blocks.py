@@ -2,6 +2,7 @@
 import struct
 
 BLOCK, RECORD, RECORDS, INITIAL, FINALS, CHECKED = 512, 16, 32, 16, 288, 508
+EDITION, EDITION_AT = 1, 4
 FIELDS = ("addr", "data", "ctrl", "rval", "wval")
 
 
@@ -9,12 +10,18 @@ def record(e):
     return struct.pack("<4B5H", e["kind"], e["hart"], e["loc"], e["flags"], *(e[f] for f in FIELDS))
 
 
-def block(test, edition=1):
+def sealed(b):
+    """The block with its check made right."""
+    check = sum((i + 1) * v for i, v in enumerate(b[:CHECKED]))
+    return bytes(b[:CHECKED]) + struct.pack("<I", check)
+
+
+def block(test):
     """A test has harts, locs, init (values), events, and finals (values by location)."""
     finals = {int(x): v for x, v in test["finals"].items()}
     b = bytearray(BLOCK)
     stated = sum(1 << x for x in finals)
-    b[0:9] = struct.pack("<4s5B", b"RVT1", edition, test["harts"], test["locs"], len(test["events"]), stated)
+    b[0:9] = struct.pack("<4s5B", b"RVT1", EDITION, test["harts"], test["locs"], len(test["events"]), stated)
     for x, v in enumerate(test["init"]):
         struct.pack_into("<H", b, INITIAL + 2 * x, v)
     for k, e in enumerate(test["events"]):
@@ -22,5 +29,4 @@ def block(test, edition=1):
         b[RECORDS + RECORD * k:RECORDS + RECORD * k + len(r)] = r
     for x, v in finals.items():
         struct.pack_into("<H", b, FINALS + 2 * x, v)
-    struct.pack_into("<I", b, CHECKED, sum((i + 1) * v for i, v in enumerate(b[:CHECKED])))
-    return bytes(b)
+    return sealed(b)

@@ -1,11 +1,12 @@
 //! One call, and its outcome by the library and by the independent program.
 
 use crate::lent::Room;
-use cogthunder::{Answer, Axiom, Refusal, Verdict, Witnesses};
+use cogthunder::{Answer, Axiom, Event, Refusal, Table, Verdict, Witnesses};
+use oracle::raw::{RawEvent, RawTable};
 use oracle::search::MAX_ALLOWANCE;
 use std::fmt;
 
-/// A block, and which entry is called with it.
+/// A block, and which entry is called with it. The block is empty if that is the writer.
 #[derive(Clone, PartialEq, Eq, Debug)]
 pub struct Call {
     pub block: Vec<u8>,
@@ -16,6 +17,10 @@ pub struct Call {
 #[derive(Clone, PartialEq, Eq, Debug)]
 pub enum Entry {
     Read,
+    Write {
+        table: Box<RawTable>,
+        out: Vec<u8>,
+    },
     Verdict {
         returned: Vec<u8>,
         order: Vec<u8>,
@@ -89,6 +94,9 @@ impl Library {
         let block = self.block.lend(&call.block);
         match &call.entry {
             Entry::Read => cogthunder::read(block).map_or_else(Reply::from, |()| Reply::Good),
+            Entry::Write { table, out } => {
+                cogthunder::write(&same_table(table), self.second.lend(out)).map_or_else(Reply::from, |()| Reply::Good)
+            }
             Entry::Verdict { returned, order } => {
                 match cogthunder::verdict(block, self.first.lend(returned), self.second.lend(order)) {
                     Err(refusal) => refusal.into(),
@@ -130,7 +138,7 @@ impl Entry {
     /// The lists that are lent beside the block, and must stay as they are.
     fn inputs(&self) -> (Option<&[u8]>, Option<&[u8]>) {
         match self {
-            Entry::Read | Entry::Blocks => (None, None),
+            Entry::Read | Entry::Write { .. } | Entry::Blocks => (None, None),
             Entry::Verdict { returned, order } => (Some(returned), Some(order)),
             Entry::Returns { order: list, .. }
             | Entry::Search { start: list, .. }
@@ -141,7 +149,7 @@ impl Entry {
     /// The buffer that is written to.
     fn out(&self) -> Option<&[u8]> {
         match self {
-            Entry::Returns { out, .. } | Entry::Search { out, .. } => Some(out),
+            Entry::Write { out, .. } | Entry::Returns { out, .. } | Entry::Search { out, .. } => Some(out),
             _ => None,
         }
     }
@@ -187,6 +195,7 @@ fn reference_reply(call: &Call, buffer: &mut [u8]) -> Reply {
     let block = &call.block;
     match &call.entry {
         Entry::Read => oracle::table::read(block).map_or_else(Reply::from, |_| Reply::Good),
+        Entry::Write { table, .. } => oracle::raw::write(table, buffer).map_or_else(Reply::from, |()| Reply::Good),
         Entry::Verdict { returned, order } => match oracle::candidate::verdict(block, returned, order) {
             Err(refusal) => refusal.into(),
             Ok(None) => Reply::Good,
@@ -200,6 +209,24 @@ fn reference_reply(call: &Call, buffer: &mut [u8]) -> Reply {
         Entry::Blocks => Reply::Blocks(block.chunks(oracle::layout::BLOCK_LENGTH).len() as u64),
         Entry::Witnesses { start, .. } => reference_walk(block, start).unwrap_or_else(Reply::from),
     }
+}
+
+fn same_table(raw: &RawTable) -> Table {
+    let mut table = Table::new(raw.harts, raw.locations);
+    table.count = raw.count;
+    table.stated = raw.stated;
+    table.initial = raw.initial;
+    table.finals = raw.finals;
+    table.events = raw.events.map(same_event);
+    table
+}
+
+fn same_event(raw: RawEvent) -> Event {
+    let mut event = Event::default();
+    [event.kind, event.hart, event.location, event.flags] = [raw.kind, raw.hart, raw.location, raw.flags];
+    [event.address, event.data, event.control] = [raw.address, raw.data, raw.control];
+    [event.read, event.written] = [raw.read, raw.written];
+    event
 }
 
 fn same_axiom(axiom: oracle::rules::Axiom) -> Axiom {
@@ -246,6 +273,7 @@ impl Entry {
     pub fn name(&self) -> &'static str {
         match self {
             Entry::Read => "read",
+            Entry::Write { .. } => "write",
             Entry::Verdict { .. } => "verdict",
             Entry::Returns { .. } => "returns",
             Entry::Search { .. } => "search",

@@ -2,6 +2,7 @@
 
 use crate::call::{Call, Entry, Outcome, Reply};
 use crate::comparison::{Comparison, Difference};
+use crate::writes::writes;
 use cogthunder::Answer;
 use oracle::encode::encode;
 use oracle::generate::candidates::{choose_outcome, contended_table, other_return, returned_list, with_swap};
@@ -20,7 +21,7 @@ use oracle::table::*;
 type Round = fn(&mut Prng, &mut Comparison) -> Result<(), Box<Difference>>;
 
 /// As often as they shall come.
-const ROUNDS: [Round; 16] = [
+const ROUNDS: [Round; 18] = [
     candidates,
     candidates,
     candidates,
@@ -37,6 +38,8 @@ const ROUNDS: [Round; 16] = [
     fences_only,
     random_bytes,
     suite,
+    writes,
+    writes,
 ];
 
 /// With so few memory events a table's list of prefixes is short enough to be walked to the end, whatever the table.
@@ -44,9 +47,9 @@ const FEW_EVENTS: usize = 6;
 /// No walk makes more calls than this.
 const MOST_CALLS: usize = 30;
 /// Calls of a round that has no end of its own.
-const SOME_CALLS: usize = 6;
+pub const SOME_CALLS: usize = 6;
 const LONGEST_SUITE: usize = 5000;
-const LONGEST_BYTES: usize = 1100;
+pub const LONGEST_BYTES: usize = 1100;
 const LONGEST_LIST: usize = 300;
 
 pub fn round(prng: &mut Prng, comparison: &mut Comparison) -> Result<(), Box<Difference>> {
@@ -76,7 +79,7 @@ impl Calls<'_> {
     }
 }
 
-fn some_bytes(prng: &mut Prng, length: usize) -> Vec<u8> {
+pub fn some_bytes(prng: &mut Prng, length: usize) -> Vec<u8> {
     (0..length).map(|_| prng.bits() as u8).collect()
 }
 
@@ -105,7 +108,7 @@ fn candidates(prng: &mut Prng, comparison: &mut Comparison) -> Result<(), Box<Di
 
 /// Tables of any size, tables whose harts meet at few locations, smaller ones whose harts meet at one, and tables with
 /// many annotations.
-fn any_shape(prng: &mut Prng) -> Table {
+pub fn any_shape(prng: &mut Prng) -> Table {
     match prng.below(4) {
         0 => any_table(prng),
         1 => contended_table(prng),
@@ -281,9 +284,12 @@ fn every_entry(prng: &mut Prng, calls: &mut Calls, table: &Table) -> Result<(), 
 
 /// A table without a memory event.
 fn fences_only(prng: &mut Prng, comparison: &mut Comparison) -> Result<(), Box<Difference>> {
-    let events = (0..1 + prng.below(MAX_EVENTS)).map(|_| any_fence(prng)).collect();
-    let block = encode(&litmus::table(events));
+    let block = encode(&any_fences(prng));
     every_entry(prng, &mut Calls { comparison, block }, &litmus::c1())
+}
+
+pub fn any_fences(prng: &mut Prng) -> Table {
+    litmus::table((0..1 + prng.below(MAX_EVENTS)).map(|_| any_fence(prng)).collect())
 }
 
 fn any_fence(prng: &mut Prng) -> Event {

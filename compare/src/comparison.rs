@@ -54,7 +54,7 @@ mod tests {
     use cogthunder::{Answer, Axiom};
     use oracle::encode::encode;
     use oracle::generate::prng::Prng;
-    use oracle::layout::EVENTS_AT;
+    use oracle::layout::{CHECK_AT, EVENTS_AT};
     use oracle::litmus;
 
     /// Calls enough to meet the faults below.
@@ -118,6 +118,18 @@ mod tests {
     }
 
     #[test]
+    fn a_byte_written_wrong_is_shown_by_a_table_of_one_event() {
+        let found = difference(|call, outcome| {
+            if let (Entry::Write { .. }, Reply::Good) = (&call.entry, &outcome.reply) {
+                outcome.out[CHECK_AT] ^= 1;
+            }
+        });
+        let Entry::Write { table, .. } = found.call.entry else { panic!("the writer is called") };
+        assert_eq!(table.count, 1);
+        assert_eq!(found.reference.reply, Reply::Good);
+    }
+
+    #[test]
     fn an_altered_argument_is_a_difference() {
         let found = difference(|call, outcome| {
             if call.entry == Entry::Blocks {
@@ -140,7 +152,7 @@ mod tests {
 
     #[test]
     fn the_samples_of_the_package_are_the_papers_c1_and_c2() {
-        assert_eq!(encode(&litmus::c1()), include_bytes!("../../rust/samples/message-passing.block"));
-        assert_eq!(encode(&litmus::c2()), include_bytes!("../../rust/samples/message-passing-fences.block"));
+        assert_eq!(encode(&litmus::c1()), include_bytes!("../../samples/C1.block"));
+        assert_eq!(encode(&litmus::c2()), include_bytes!("../../samples/C2.block"));
     }
 }

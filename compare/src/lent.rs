@@ -3,7 +3,7 @@
 use crate::pages::Pages;
 use std::ops::Range;
 
-/// What surrounds a lent slice. The library writes event numbers, 254 and 255 only.
+/// What surrounds a lent slice: no event number, and neither 254 nor 255.
 const GUARD: u8 = 0xA5;
 const GUARDS: usize = 64;
 

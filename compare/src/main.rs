@@ -8,6 +8,7 @@ mod litmus;
 mod pages;
 mod shrink;
 mod tally;
+mod writes;
 
 use call::{Library, Reference};
 use comparison::{Comparison, Difference};

@@ -4,6 +4,8 @@ use crate::call::{Call, Entry};
 use oracle::candidate::{INITIAL, NON_READER};
 use oracle::encode::seal;
 use oracle::layout::*;
+use oracle::raw::{RawEvent, RawTable};
+use oracle::stream::Stream;
 
 /// Takes smaller calls as long as one has the property. Each has fewer events, shorter lists, a smaller allowance or a
 /// smaller byte, so that this ends.
@@ -75,7 +77,7 @@ fn without_event(call: &Call, k: usize) -> Call {
         Entry::Returns { order, out } => Entry::Returns { order: list(&order), out },
         Entry::Search { start, out, allowance } => Entry::Search { start: list(&start), out, allowance },
         Entry::Witnesses { start, allowance, steps } => Entry::Witnesses { start: list(&start), allowance, steps },
-        entry @ (Entry::Read | Entry::Blocks) => entry,
+        entry @ (Entry::Read | Entry::Write { .. } | Entry::Blocks) => entry,
     };
     Call { block, entry }
 }
@@ -112,6 +114,11 @@ fn smaller_entries(entry: &Entry) -> Vec<Entry> {
     let mut entries = Vec::new();
     match entry {
         Entry::Read | Entry::Blocks => {}
+        Entry::Write { table, out } => {
+            let with = |table, out: &[u8]| Entry::Write { table: Box::new(table), out: out.to_vec() };
+            entries.extend(smaller_tables(table).into_iter().map(|table| with(table, out)));
+            entries.extend(shorter(out).map(|out| with(*table.clone(), &out)));
+        }
         Entry::Verdict { returned, order } => {
             entries.extend(shorter(returned).map(|returned| Entry::Verdict { returned, order: order.clone() }));
             entries.extend(shorter(order).map(|order| Entry::Verdict { returned: returned.clone(), order }));
@@ -140,12 +147,36 @@ fn smaller_entries(entry: &Entry) -> Vec<Entry> {
     entries
 }
 
-/// Blocks with one byte turned to 0, halved or made smaller by 1, and, of other bytes than a block, the first half of them
-/// and all but the last.
+/// A table without its last event.
+fn without_last(table: &RawTable) -> Option<RawTable> {
+    let count = table.count.checked_sub(1)?;
+    let mut table = RawTable { count, ..table.clone() };
+    *table.events.get_mut(usize::from(count))? = RawEvent::default();
+    Some(table)
+}
+
+/// Tables without their last event, and with one byte of a field made smaller.
+fn smaller_tables(table: &RawTable) -> Vec<RawTable> {
+    let mut fields = Vec::new();
+    table.push_to(&mut fields);
+    let changed = smaller_bytes(&fields).map(|(at, value)| {
+        let mut fields = fields.clone();
+        fields[at] = value;
+        RawTable::take_from(&mut Stream::new(&fields)).expect("there are as many bytes")
+    });
+    without_last(table).into_iter().chain(changed).collect()
+}
+
+/// Places of bytes that aren't 0, each with 0, half of it, and 1 less.
+fn smaller_bytes(bytes: &[u8]) -> impl Iterator<Item = (usize, u8)> + '_ {
+    let others = bytes.iter().enumerate().filter(|&(_, &byte)| byte != 0);
+    others.flat_map(|(at, &byte)| [(at, 0), (at, byte / 2), (at, byte - 1)])
+}
+
+/// Blocks with one byte made smaller, and, of other bytes than a block, the first half of them and all but the last.
 fn smaller_blocks(block: &[u8]) -> impl Iterator<Item = Vec<u8>> + '_ {
     let end = if block.len() == BLOCK_LENGTH { CHECK_AT } else { block.len() };
-    let changes =
-        (0..end).filter(|&at| block[at] != 0).flat_map(|at| [(at, 0), (at, block[at] / 2), (at, block[at] - 1)]);
+    let changes = smaller_bytes(&block[..end]);
     let lengths = [block.len() / 2, block.len().saturating_sub(1)];
     let shorter = lengths.into_iter().filter(|&length| block.len() != BLOCK_LENGTH && length < block.len());
     shorter

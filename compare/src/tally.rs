@@ -1,12 +1,14 @@
 //! How many calls were made, and what they gave.
 
-use crate::call::{Call, Outcome, Reply};
+use crate::call::{Call, Entry, Outcome, Reply};
 use cogthunder::{Answer, Axiom};
 use std::collections::BTreeMap;
 use std::fmt;
 
 /// What a search or a reading of a block can be refused by.
 const REFUSALS: std::ops::RangeInclusive<u8> = 1..=17;
+/// What a table can be refused by.
+const TABLE_REFUSALS: [u8; 8] = [1, 5, 6, 7, 8, 9, 10, 11];
 const RULES: std::ops::RangeInclusive<u8> = 1..=13;
 /// Never the lowest rule: rule 1 holds of an LR and its SC too.
 const PAIRED: u8 = 8;
@@ -22,6 +24,8 @@ pub struct Tally {
     verdicts: BTreeMap<&'static str, u64>,
     rules: BTreeMap<u8, u64>,
     searches: BTreeMap<&'static str, u64>,
+    written: u64,
+    not_written: BTreeMap<u8, u64>,
 }
 
 fn verdict_name(axiom: &Axiom) -> &'static str {
@@ -46,6 +50,9 @@ impl Tally {
     pub fn count(&mut self, call: &Call, outcome: &Outcome) {
         self.calls += 1;
         *self.entries.entry(call.entry.name()).or_default() += 1;
+        if let Entry::Write { .. } = call.entry {
+            self.count_write(&outcome.reply);
+        }
         match &outcome.reply {
             Reply::Refused { number, .. } => *self.refusals.entry(*number).or_default() += 1,
             Reply::Broken(axiom) => {
@@ -60,13 +67,23 @@ impl Tally {
         }
     }
 
+    fn count_write(&mut self, reply: &Reply) {
+        match reply {
+            Reply::Refused { number, .. } => *self.not_written.entry(*number).or_default() += 1,
+            _ => self.written += 1,
+        }
+    }
+
     /// What no call gave, though some call can.
     pub fn unmet(&self) -> Vec<String> {
         let refusals = REFUSALS.filter(|n| !self.refusals.contains_key(n)).map(|n| format!("refusal {n}"));
         let rules = RULES.filter(|&n| n != PAIRED && !self.rules.contains_key(&n)).map(|n| format!("rule {n}"));
         let verdicts = VERDICTS.iter().filter(|&name| !self.verdicts.contains_key(name)).map(|name| name.to_string());
         let searches = SEARCHES.iter().filter(|&name| !self.searches.contains_key(name)).map(|name| name.to_string());
-        refusals.chain(rules).chain(verdicts).chain(searches).collect()
+        let not_written = TABLE_REFUSALS.iter().filter(|&n| !self.not_written.contains_key(n));
+        let not_written = not_written.map(|n| format!("refusal {n} of a table"));
+        let written = (self.written == 0).then(|| "a table that is written".to_string());
+        refusals.chain(rules).chain(verdicts).chain(searches).chain(not_written).chain(written).collect()
     }
 }
 
@@ -80,6 +97,7 @@ impl fmt::Display for Tally {
         writeln!(f, "  refusals {}", listed(&self.refusals))?;
         writeln!(f, "  verdicts {}", listed(&self.verdicts))?;
         writeln!(f, "  rules    {}", listed(&self.rules))?;
-        write!(f, "  searches {}", listed(&self.searches))
+        writeln!(f, "  searches {}", listed(&self.searches))?;
+        write!(f, "  tables   written: {}, refused by {}", self.written, listed(&self.not_written))
     }
 }

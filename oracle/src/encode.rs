@@ -1,4 +1,4 @@
-//! Writes a table as a block: the inverse of reading, for the generators and the tests.
+//! Writes a table as a block: the inverse of reading.
 
 use crate::layout::*;
 use crate::table::{Event, Table};
@@ -27,9 +27,9 @@ fn put_event(record: &mut [u8], event: &Event) {
     record[field::HART] = event.hart as u8;
     record[field::LOCATION] = event.location as u8;
     record[field::FLAGS] = event.flags;
-    put_word(record, field::ADDRESS, event.address);
-    put_word(record, field::DATA, event.data);
-    put_word(record, field::CONTROL, event.control);
+    put_word(record, field::ADDRESS, event.address as u16);
+    put_word(record, field::DATA, event.data as u16);
+    put_word(record, field::CONTROL, event.control as u16);
     put_word(record, field::READ, event.read);
     put_word(record, field::WRITTEN, event.written);
 }

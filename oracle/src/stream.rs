@@ -40,6 +40,16 @@ impl<'a> Stream<'a> {
         Ok(bytes.iter().rev().fold(0, |number, &byte| number << u8::BITS | u64::from(byte)))
     }
 
+    /// A number of two bytes.
+    pub fn word(&mut self) -> Result<u16, Malformed> {
+        Ok(u16::from_le_bytes([self.byte()?, self.byte()?]))
+    }
+
+    /// A mask of four bytes.
+    pub fn mask(&mut self) -> Result<u32, Malformed> {
+        Ok(u32::from(self.word()?) | u32::from(self.word()?) << u16::BITS)
+    }
+
     /// A length of one byte, then that many bytes.
     pub fn list(&mut self) -> Result<&'a [u8], Malformed> {
         let length = self.byte()?;
@@ -48,7 +58,7 @@ impl<'a> Stream<'a> {
 
     /// A length of two bytes, then that many bytes.
     pub fn frame(&mut self) -> Result<&'a [u8], Malformed> {
-        let length = u16::from_le_bytes([self.byte()?, self.byte()?]);
+        let length = self.word()?;
         self.take(length.into())
     }
 }

@@ -19,7 +19,7 @@ impl Kind {
     pub const ALL: [Kind; 7] =
         [Kind::Load, Kind::Store, Kind::Amo, Kind::Lr, Kind::Sc, Kind::Fence, Kind::FenceTso];
 
-    fn from_number(number: u8) -> Option<Kind> {
+    pub fn from_number(number: u8) -> Option<Kind> {
         Kind::ALL.into_iter().find(|&kind| kind as u8 == number)
     }
 }
@@ -41,15 +41,16 @@ pub const SW: u8 = 8;
 /// The largest flags, for memory events and fences alike.
 pub const ALL_FLAGS: u8 = 15;
 
+/// A block's masks have two bytes; those of a table that is to be written have four.
 #[derive(Clone, PartialEq, Eq, Debug)]
 pub struct Event {
     pub kind: Kind,
     pub hart: usize,
     pub location: usize,
     pub flags: u8,
-    pub address: u16,
-    pub data: u16,
-    pub control: u16,
+    pub address: u32,
+    pub data: u32,
+    pub control: u32,
     pub read: u16,
     pub written: u16,
 }
@@ -93,8 +94,11 @@ pub struct Table {
     pub events: Vec<Event>,
 }
 
+/// How many events a mask could name.
+pub const MASK_BITS: usize = u32::BITS as usize;
+
 /// "Bit k of a record's mask (bit 0 lowest) names event k"
-pub fn names(mask: u16, event: usize) -> bool {
+pub fn names(mask: u32, event: usize) -> bool {
     mask >> event & 1 == 1
 }
 
@@ -193,11 +197,16 @@ pub fn read(block: &[u8]) -> Result<Table, Refusal> {
     refuse_if(ranges_broken(block), Line::Ranges)?;
     refuse_if(zeros_broken(block), Line::Zeros)?;
     let table = decode(block)?;
-    refuse_records(&table, Line::Annotations, annotations_broken)?;
-    refuse_records(&table, Line::Dependencies, dependencies_broken)?;
-    refuse_records(&table, Line::Pairing, pairing_broken)?;
-    refuse_if(table.memory_events().is_empty(), Line::NoMemoryEvent)?;
+    refuse_table(&table)?;
     Ok(table)
+}
+
+/// Lines 8 to 11.
+pub fn refuse_table(table: &Table) -> Result<(), Refusal> {
+    refuse_records(table, Line::Annotations, annotations_broken)?;
+    refuse_records(table, Line::Dependencies, dependencies_broken)?;
+    refuse_records(table, Line::Pairing, pairing_broken)?;
+    refuse_if(table.memory_events().is_empty(), Line::NoMemoryEvent)
 }
 
 /// 5: "harts, locations or events out of range, or the final mask names a location not in
@@ -253,9 +262,9 @@ fn decode_event(record: &[u8]) -> Option<Event> {
         hart: record[field::HART].into(),
         location: record[field::LOCATION].into(),
         flags: record[field::FLAGS],
-        address: word(record, field::ADDRESS),
-        data: word(record, field::DATA),
-        control: word(record, field::CONTROL),
+        address: word(record, field::ADDRESS).into(),
+        data: word(record, field::DATA).into(),
+        control: word(record, field::CONTROL).into(),
         read: word(record, field::READ),
         written: word(record, field::WRITTEN),
     })
@@ -264,7 +273,7 @@ fn decode_event(record: &[u8]) -> Option<Event> {
 /// 7, but for the kind: "hart, location or flags out of range; a non-reader with a value
 /// read or a non-writer with a value written that isn't zero; a fence with location or mask
 /// not zero; flags on fence.tso"
-fn fields_broken(table: &Table, event: &Event) -> bool {
+pub fn fields_broken(table: &Table, event: &Event) -> bool {
     let out_of_range =
         event.hart >= table.harts || event.location >= table.locations || event.flags > ALL_FLAGS;
     let has_masks = event.address | event.data | event.control != 0;
@@ -294,7 +303,7 @@ fn dependencies_broken(table: &Table, record: usize) -> bool {
     let event = &table.events[record];
     let masks = event.address | event.data | event.control;
     let names_wrong_event =
-        (0..MAX_EVENTS).any(|e| names(masks, e) && !may_be_depended_on(table, e, record));
+        (0..MASK_BITS).any(|e| names(masks, e) && !may_be_depended_on(table, e, record));
     let lacks_control = |later: usize| {
         let other = &table.events[later];
         table.in_program_order(record, later)

@@ -1,6 +1,6 @@
 //! Lists all witnesses of the test in a block file: the global memory orders, by event numbers, that give the outcome.
 //!
-//!     cargo run --offline --example witnesses -- samples/message-passing.block
+//!     cargo run --offline --example witnesses -- ../samples/C1.block
 
 use cogthunder::Witnesses;
 use std::error::Error;

@@ -10,16 +10,20 @@
 //! Whether an outcome is allowed, and by which orders:
 //!
 //! ```
-//! use cogthunder::Witnesses;
+//! use cogthunder::{Table, Witnesses};
 //!
-//! // Hart 0 stores x=1 (event 0) and y=1 (1); hart 1 loads y reading 1 (2) and x reading 0 (3).
-//! let block = include_bytes!(concat!(env!("CARGO_MANIFEST_DIR"), "/samples/message-passing.block"));
-//! let orders: Vec<Vec<u8>> = Witnesses::of(block)?.collect();
+//! let mut table = Table::new(2, 2);
+//! table.store(0, 0, 1); // event 0: hart 0 stores x=1
+//! table.store(0, 1, 1); // 1: .. then y=1
+//! table.load(1, 1, 1); // 2: hart 1 loads y, reading 1
+//! table.load(1, 0, 0); // 3: .. then x, reading 0
+//! let block = table.block()?;
+//! let orders: Vec<Vec<u8>> = Witnesses::of(&block)?.collect();
 //! assert_eq!(orders.len(), 6);
 //! assert_eq!(orders[0], [1, 2, 3, 0]);
 //!
 //! // With a fence between the accesses of each hart no order gives that outcome: it is forbidden.
-//! let block = include_bytes!(concat!(env!("CARGO_MANIFEST_DIR"), "/samples/message-passing-fences.block"));
+//! let block = include_bytes!(concat!(env!("CARGO_MANIFEST_DIR"), "/../samples/C2.block"));
 //! assert_eq!(Witnesses::of(block)?.next(), None);
 //! # Ok::<(), cogthunder::Refusal>(())
 //! ```
@@ -28,10 +32,12 @@
 
 mod answers;
 mod library;
+mod table;
 mod witnesses;
 
 pub use answers::{Answer, Axiom, Refusal, Verdict};
-pub use library::{blocks, read, returns, search, verdict};
+pub use library::{blocks, read, returns, search, verdict, write};
+pub use table::{Accesses, Annotation, Event, Table};
 pub use witnesses::Witnesses;
 
 /// The length of a block.

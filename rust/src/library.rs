@@ -1,9 +1,12 @@
 //! The proved functions, each answer of which is one word.
 
 use crate::answers::{Answer, Axiom, Refusal, Verdict};
+use crate::table::Table;
 
 extern "C" {
     fn ct_read(block: *const u8, block_len: usize) -> u64;
+
+    fn ct_write(table: Table, out: *mut u8, out_len: usize) -> u64;
 
     fn ct_verdict(
         block: *const u8,
@@ -36,6 +39,9 @@ extern "C" {
     fn ct_blocks(suite: *const u8, suite_len: usize) -> u64;
 }
 
+/// A table is passed by value: its fields without padding, as in the C header.
+const _: () = assert!(size_of::<Table>() == 676);
+
 /// Byte 0 of a word.
 const GOOD: u8 = 0;
 const REFUSED: u8 = 1;
@@ -63,7 +69,7 @@ fn parts(word: u64) -> Result<[u8; 4], Refusal> {
 /// Reads a block. It is refused by 1 to 11.
 ///
 /// ```
-/// let mut block = *include_bytes!(concat!(env!("CARGO_MANIFEST_DIR"), "/samples/message-passing.block"));
+/// let mut block = *include_bytes!(concat!(env!("CARGO_MANIFEST_DIR"), "/../samples/C1.block"));
 /// assert!(cogthunder::read(&block).is_ok());
 ///
 /// block[7] = 3;
@@ -78,6 +84,25 @@ pub fn read(block: &[u8]) -> Result<(), Refusal> {
     parts(word).map(|_| ())
 }
 
+/// Writes the block of a table to `out`, which has [`BLOCK`](crate::BLOCK) bytes. It is refused by 1 if `out` has another
+/// length, and by 5 to 11.
+///
+/// [`Table::block`] makes such a call.
+///
+/// ```
+/// let mut table = cogthunder::Table::new(1, 1);
+/// table.load(0, 0, 0);
+/// let mut suite = [0; 2 * cogthunder::BLOCK];
+/// cogthunder::write(&table, &mut suite[cogthunder::BLOCK..])?;
+/// assert!(cogthunder::read(&suite[cogthunder::BLOCK..]).is_ok());
+/// assert_eq!(cogthunder::write(&table, &mut suite).unwrap_err().number, 1);
+/// # Ok::<(), cogthunder::Refusal>(())
+/// ```
+pub fn write(table: &Table, out: &mut [u8]) -> Result<(), Refusal> {
+    let word = unsafe { ct_write(table.clone(), out.as_mut_ptr(), out.len()) };
+    parts(word).map(|_| ())
+}
+
 /// The verdict for a candidate: `order` has each memory event once, and `returned` an entry for each event, which is the
 /// writer that it returns from, [`INITIALLY`](crate::INITIALLY), or [`NOTHING`](crate::NOTHING) for an event that
 /// doesn't read. It is refused by 1 to 14.
@@ -85,7 +110,7 @@ pub fn read(block: &[u8]) -> Result<(), Refusal> {
 /// ```
 /// use cogthunder::{verdict, Axiom, Verdict, INITIALLY, NOTHING};
 ///
-/// let block = include_bytes!(concat!(env!("CARGO_MANIFEST_DIR"), "/samples/message-passing-fences.block"));
+/// let block = include_bytes!(concat!(env!("CARGO_MANIFEST_DIR"), "/../samples/C2.block"));
 /// // Event 3 reads what event 2 stored, event 5 the initial value; 1 and 4 are fences.
 /// let returned = [NOTHING, NOTHING, NOTHING, 2, NOTHING, INITIALLY];
 /// let broken = verdict(block, &returned, &[2, 3, 5, 0])?;
@@ -118,7 +143,7 @@ pub fn verdict(block: &[u8], returned: &[u8], order: &[u8]) -> Result<Verdict, R
 /// ```
 /// use cogthunder::{returns, verdict, Verdict, EVENTS, INITIALLY, NOTHING};
 ///
-/// let block = include_bytes!(concat!(env!("CARGO_MANIFEST_DIR"), "/samples/message-passing.block"));
+/// let block = include_bytes!(concat!(env!("CARGO_MANIFEST_DIR"), "/../samples/C1.block"));
 /// let order = [1, 2, 3, 0];
 /// let mut returned = [0; 4];
 /// returns(block, &order, &mut returned)?;
@@ -142,7 +167,7 @@ pub fn returns(block: &[u8], order: &[u8], out: &mut [u8]) -> Result<(), Refusal
 /// ```
 /// use cogthunder::{search, Answer, EVENTS};
 ///
-/// let block = include_bytes!(concat!(env!("CARGO_MANIFEST_DIR"), "/samples/message-passing.block"));
+/// let block = include_bytes!(concat!(env!("CARGO_MANIFEST_DIR"), "/../samples/C1.block"));
 /// let mut out = [0; EVENTS];
 /// let answer = search(block, &[], &mut out, 26)?;
 /// assert_eq!(answer, Answer::Spent { len: 3, visited: 26 });
@@ -170,7 +195,7 @@ pub fn search(block: &[u8], start: &[u8], out: &mut [u8], allowance: u64) -> Res
 /// How many blocks a suite has; a last part block counts. Block k begins at byte 512 k.
 ///
 /// ```
-/// let block = include_bytes!(concat!(env!("CARGO_MANIFEST_DIR"), "/samples/message-passing.block"));
+/// let block = include_bytes!(concat!(env!("CARGO_MANIFEST_DIR"), "/../samples/C1.block"));
 /// let suite = [&block[..], &block[..], &block[..100]].concat();
 /// assert_eq!(cogthunder::blocks(&suite), 3);
 /// let tests: Vec<bool> = suite.chunks(cogthunder::BLOCK).map(|block| cogthunder::read(block).is_ok()).collect();

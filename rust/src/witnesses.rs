@@ -17,7 +17,7 @@ const ALLOWANCE: u64 = 1_000_000;
 /// ```
 /// use cogthunder::{Answer, Witnesses};
 ///
-/// let block = include_bytes!(concat!(env!("CARGO_MANIFEST_DIR"), "/samples/message-passing.block"));
+/// let block = include_bytes!(concat!(env!("CARGO_MANIFEST_DIR"), "/../samples/C1.block"));
 /// let mut walk = Witnesses::of(block)?.allowance(26);
 /// assert_eq!(walk.step(), Answer::Spent { len: 3, visited: 26 });
 /// let saved = walk.start().to_vec();

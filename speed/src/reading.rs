@@ -202,8 +202,8 @@ mod tests {
         for (e, f) in t.events.iter().zip(&other.events) {
             let bytes = (f.kind as u8, f.hart as u8, f.location as u8, f.flags);
             assert_eq!((e.kind, e.hart, e.location, e.flags), bytes);
-            let words = [f.address, f.data, f.control, f.read, f.written];
-            assert_eq!([e.addr, e.data, e.ctrl, e.read, e.written], words);
+            assert_eq!([e.addr, e.data, e.ctrl].map(u32::from), [f.address, f.data, f.control]);
+            assert_eq!([e.read, e.written], [f.read, f.written]);
         }
     }
 

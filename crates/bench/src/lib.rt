@@ -8,6 +8,7 @@ ghost use mathlib.Core.Path.{_≡_};
 ghost use Rattle.refusals.specs.Lines.{firstLine};
 ghost use Rattle.refusals.specs.Refusals.{refusalOf};
 ghost use Rattle.block.specs.Reading.{readRefusal, readTable};
+ghost use Rattle.writer.specs.Writing.{writeRefusal, writtenBlock};
 ghost use Rattle.table.specs.Events.{memoryCount};
 ghost use Rattle.model.specs.Returns.{returns};
 ghost use Rattle.model.specs.Verdict.{verdict};
@@ -68,6 +69,14 @@ pub fn read(bytes: &[u8]) -> Reading
     ensures { λ r. ⌜ (refusalOf (r .refusal) ≡ readRefusal (now (bytes .entry))) × (r .table ≡ readTable (now (bytes .entry))) ⌝ }
 {
     block::read(bytes)
+}
+
+// Writing a block: refusals 1 and 5 to 11, and the table's bytes.
+pub fn write(t: Table, out: &mut [u8]) -> Refusal
+    ensures { λ r. ⌜ refusalOf r ≡ writeRefusal t (now (out .entry)) ⌝ }
+    ensures { λ r. ⌜ now (out .exit) ≡ writtenBlock t (now (out .entry)) ⌝ }
+{
+    writer::write(t, out)
 }
 
 // Block k of a suite, as that part of the caller's bytes; empty if there is none (18).

@@ -1,4 +1,6 @@
 // Reading a block: refusals 1 to 11, and the table.
+use decode::At;
+use decode::MARKER;
 use edition::EditionOne;
 use refusals::Refusal;
 use table::Table;
@@ -17,10 +19,6 @@ pub struct Reading {
     pub refusal: Refusal,
     pub table: Table,
 }
-
-const MARKER: [u8; 4] = [0x52, 0x56, 0x54, 0x31];
-
-const EDITION_AT: usize = 4;
 
 // The blank table, which a refusal gives.
 pub fn no_table() -> Table
@@ -95,7 +93,7 @@ fn read_whole(s: &[u8]) -> Reading
     if marker_wrong(s) {
         return refused(3);
     }
-    if s[EDITION_AT] != EditionOne::NUMBER {
+    if s[At::EDITION] != EditionOne::NUMBER {
         return refused(4);
     }
     let t = decode::decode(s);

@@ -2,6 +2,7 @@
 use refusals::Refusal;
 use search::Outcome;
 use search::Reply;
+use table::Table;
 use verdict::Axiom;
 use verdict::Verdict;
 ghost use Prim.Native.Nat.{_^_, _<_};
@@ -9,6 +10,7 @@ ghost use mathlib.Core.Path.{_≡_};
 ghost use lib.ListN.{length, take};
 ghost use Rattle.refusals.specs.Refusals.{refusalOf};
 ghost use Rattle.block.specs.Reading.{readRefusal};
+ghost use Rattle.writer.specs.Writing.{writeRefusal, writtenBlock};
 ghost use Rattle.verdict.specs.Judged.{axiomOf, judgedOf};
 ghost use Rattle.search.specs.Outcome.{outcomeOf};
 ghost use Rattle.search.specs.Replies.{replyOf};
@@ -134,6 +136,15 @@ pub extern "C" fn ct_read(block: &[u8]) -> u64
     let reading = bench::read(block);
     let refusal = reading.refusal;
     refusal_word(refusal)
+}
+
+// Writing a block.
+#[no_mangle]
+pub extern "C" fn ct_write(t: Table, out: &mut [u8]) -> u64
+    ensures { λ r. ⌜ r ≡ refusalWord (writeRefusal t (now (out .entry))) ⌝ }
+    ensures { λ r. ⌜ now (out .exit) ≡ writtenBlock t (now (out .entry)) ⌝ }
+{
+    refusal_word(bench::write(t, out))
 }
 
 // The verdict for a candidate.

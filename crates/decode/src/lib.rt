@@ -13,54 +13,58 @@ ghost use Rattle.table.specs.Events.{noEvent, capacity};
 ghost use Rattle.decode.specs.Layout.{byteAt, wordAt, storedCheck};
 ghost use Rattle.decode.specs.Decoded.{recordFrom, eventAt, decoded};
 
+pub const MARKER: [u8; 4] = [0x52, 0x56, 0x54, 0x31];
+
 // Where the parts of a block stand.
-struct At;
+pub struct At;
 
 impl At {
-    const HARTS: usize = 5;
+    pub const EDITION: usize = 4;
 
-    const LOCATIONS: usize = 6;
+    pub const HARTS: usize = 5;
 
-    const EVENTS: usize = 7;
+    pub const LOCATIONS: usize = 6;
 
-    const STATED: usize = 8;
+    pub const EVENTS: usize = 7;
 
-    const INITIAL: usize = 16;
+    pub const STATED: usize = 8;
 
-    const RECORDS: usize = 32;
+    pub const INITIAL: usize = 16;
 
-    const FINALS: usize = 288;
+    pub const RECORDS: usize = 32;
 
-    const CHECK: usize = 508;
+    pub const FINALS: usize = 288;
+
+    pub const CHECK: usize = 508;
 }
 
 // Where the fields of a record stand, counted from its start.
-struct Field;
+pub struct Field;
 
 impl Field {
-    const KIND: usize = 0;
+    pub const KIND: usize = 0;
 
-    const HART: usize = 1;
+    pub const HART: usize = 1;
 
-    const LOCATION: usize = 2;
+    pub const LOCATION: usize = 2;
 
-    const FLAGS: usize = 3;
+    pub const FLAGS: usize = 3;
 
-    const ADDR: usize = 4;
+    pub const ADDR: usize = 4;
 
-    const DATA: usize = 6;
+    pub const DATA: usize = 6;
 
-    const CTRL: usize = 8;
+    pub const CTRL: usize = 8;
 
-    const READ: usize = 10;
+    pub const READ: usize = 10;
 
-    const WRITTEN: usize = 12;
+    pub const WRITTEN: usize = 12;
 }
 
 // Lengths in bytes.
-const WORD: usize = 2;
+pub const WORD: usize = 2;
 
-const RECORD: usize = 16;
+pub const RECORD: usize = 16;
 
 // How many numbers there are of one byte, and of two.
 const BYTES: u16 = 256;

@@ -44,4 +44,5 @@ impl EditionOne {
 pub struct EventNo(pub u8);
 
 // A number of a location. The two can't be mixed.
+#[repr(C)]
 pub struct LocationNo(pub u8);

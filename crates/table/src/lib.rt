@@ -1,4 +1,4 @@
-// A litmus test by value. Fields are wide enough to hold what reading refuses.
+// A litmus test by value, laid out as in C. Fields are wide enough to hold what reading refuses.
 use edition::EventNo;
 use edition::LocationNo;
 ghost use Prim.Native.Nat.{_≤_, _<_};
@@ -30,6 +30,7 @@ impl Kind {
     pub const FENCE_TSO: u8 = 7;
 }
 
+#[repr(C)]
 pub struct Event {
     pub kind: u8,
     pub hart: u8,
@@ -43,6 +44,7 @@ pub struct Event {
 }
 
 // `count` is the number of events; slots past it are blank in a good table.
+#[repr(C)]
 pub struct Table {
     pub harts: u8,
     pub locations: u8,

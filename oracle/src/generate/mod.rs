@@ -9,3 +9,4 @@ pub mod prng;
 pub mod random;
 pub mod readings;
 pub mod walks;
+pub mod writes;

@@ -133,7 +133,7 @@ fn choose_dependencies(prng: &mut Prng, table: &mut Table) {
 }
 
 /// A mask, mostly empty, else of about half of the sources.
-fn sometimes_some(prng: &mut Prng, sources: &[usize]) -> u16 {
+fn sometimes_some(prng: &mut Prng, sources: &[usize]) -> u32 {
     if !prng.one_in(4) {
         return 0;
     }

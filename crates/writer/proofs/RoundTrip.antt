@@ -1,0 +1,87 @@
+-- The round trip, both ways, and what follows from it.
+use Prim.Native.Nat.{ℕ}
+use mathlib.Core.Path.{_≡_, refl, sym, ap, _∙_}
+use mathlib.Core.Bool.{Bool, false, not}
+use mathlib.Core.List.{List}
+use lib.ListN.{length}
+use borrow.Author.Tests.{eq-eqb}
+use Rattle.edition.specs.Limits.{blockLength}
+use Rattle.table.specs.declared.Table.{Table}
+use Rattle.decode.specs.Decoded.{decoded}
+use Rattle.refusals.specs.Lines.{Refused, accepted, firstLine}
+use Rattle.refusals.specs.TableLines.{tableLines}
+use Rattle.refusals.proofs.LineLaws.{whole-next, whole-off}
+use Rattle.block.specs.ZeroBytes.{bytesNotZero}
+use Rattle.block.specs.Reading.{line1, line2, line3, line4, tableIf, readingLines, readRefusal, readTable}
+use Rattle.encode.specs.Encoded.{encoded}
+use Rattle.writer.specs.Writing.{blockUnless, writingLines, writeRefusal, writtenBlock}
+use Rattle.writer.specs.Fits.{Bytes, TableFits}
+use Rattle.writer.specs.RoundTrip.{RoundTrip}
+use Rattle.writer.proofs.GoodLaws.{good}
+use Rattle.writer.proofs.ReadBackLaws.{read-accepted, read-table}
+use Rattle.writer.proofs.WrittenBackLaws.{passed, encoded-back}
+
+-- a table and a buffer that aren't refused: no line refuses the table
+lines-passed : (t : Table) (out : List ℕ) → writeRefusal t out ≡ accepted → firstLine (t .count) (tableLines false t) ≡ accepted
+unfolding writeRefusal writingLines
+lines-passed t out h = whole-off (t .count) 1 (line1 out) (tableLines false t) h .1
+
+-- what no line refuses isn't refused where the buffer has 512 bytes
+write-alike : (t : Table) (out : List ℕ) → length out ≡ blockLength → writeRefusal t out ≡ firstLine (t .count) (tableLines false t)
+unfolding writeRefusal writingLines
+write-alike t out h = sym (whole-next _ _ _ _ _ (ap not (eq-eqb _ _ h)) refl)
+
+-- without a refusal the block is written
+written-is : (t : Table) (out : List ℕ) → writeRefusal t out ≡ accepted → writtenBlock t out ≡ encoded t
+unfolding writtenBlock
+written-is t out h = ap (λ (r : Refused). blockUnless r (encoded t) out) h
+
+-- without a refusal the table is the one that the bytes stand for
+table-is : (s : List ℕ) → readRefusal s ≡ accepted → readTable s ≡ decoded s
+unfolding readTable
+table-is s h = ap (λ (r : Refused). tableIf r (decoded s)) h
+
+-- reading what was written
+read-back : (t : Table) (out : List ℕ) → TableFits t → writeRefusal t out ≡ accepted
+    → (readRefusal (writtenBlock t out) ≡ accepted) × (readTable (writtenBlock t out) ≡ t)
+read-back t out f h =
+    let lines = lines-passed t out h in
+    let g = good t false f lines in
+    let w = written-is t out h in
+    (ap readRefusal w ∙ read-accepted t f g lines, ap readTable w ∙ read-table t f g lines)
+
+-- writing what was read
+written-back : (s out : List ℕ) → Bytes s → length out ≡ blockLength → readRefusal s ≡ accepted
+    → (writeRefusal (readTable s) out ≡ accepted) × (writtenBlock (readTable s) out ≡ s)
+written-back s out b n h =
+    let p = passed s h in
+    let w = write-alike (decoded s) out n ∙ p .lines in
+    let e = table-is s h in (
+      ap (λ (t : Table). writeRefusal t out) e ∙ w,
+      ap (λ (t : Table). writtenBlock t out) e ∙ written-is (decoded s) out w ∙ encoded-back s b p,
+    )
+
+-- one table has one block
+one-block : (r s : List ℕ) → Bytes r → Bytes s → readRefusal r ≡ accepted → readRefusal s ≡ accepted → readTable r ≡ readTable s → r ≡ s
+one-block r s b d h k e =
+    sym (encoded-back r b (passed r h)) ∙ ap encoded (sym (table-is r h) ∙ e ∙ table-is s k) ∙ encoded-back s d (passed s k)
+
+-- one block has one table
+one-table : (t u : Table) (o p : List ℕ) → TableFits t → TableFits u → writeRefusal t o ≡ accepted → writeRefusal u p ≡ accepted
+    → writtenBlock t o ≡ writtenBlock u p → t ≡ u
+one-table t u o p f g h k e = sym (read-back t o f h .1) ∙ ap readTable e ∙ read-back u p g k .1
+
+-- a table is refused as its bytes are
+refused-alike : (s out : List ℕ) → length out ≡ blockLength
+    → line1 s ≡ false → line2 s ≡ false → line3 s ≡ false → line4 s ≡ false → bytesNotZero s ≡ false
+    → writeRefusal (decoded s) out ≡ readRefusal s
+unfolding readRefusal readingLines
+refused-alike s out n l1 l2 l3 l4 z =
+    let t = decoded s in
+    let extra : firstLine (t .count) (tableLines false t) ≡ firstLine (t .count) (tableLines (bytesNotZero s) t) =
+    ap (λ (b : Bool). firstLine (t .count) (tableLines b t)) (sym z) in
+    write-alike t out n
+    ∙ whole-next _ _ _ _ _ l1 (whole-next _ _ _ _ _ l2 (whole-next _ _ _ _ _ l3 (whole-next _ _ _ _ _ l4 extra)))
+
+pub round-trip : RoundTrip
+round-trip = record { read-back = read-back; written-back = written-back; one-block = one-block; one-table = one-table; refused-alike = refused-alike }

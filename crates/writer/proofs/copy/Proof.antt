@@ -1,0 +1,63 @@
+-- `copy`: the bytes passed are copied.
+use Prim.Native.Nat.{_-_, _≤_}
+use mathlib.Core.Path.{_≡_}
+use native.Mathlib.Omega.{arith}
+use lib.ListN.{length, take, length-set}
+use borrow.Author.Needs.{needs}
+use Rattle.edition.specs.Limits.{blockLength}
+use Rattle.writer.proofs.WritingLaws.{copy-more, copy-done}
+use Rattle.writer.proofs.copy.Statement.{statement}
+use Rattle.writer.proofs.copy.Tie as tie
+
+abbrev Inv-loop : tie.InvT-loop
+Inv-loop out₀ block i₀ out i = (i ≤ blockLength) × (length out ≡ blockLength) × (take i out ≡ take i block)
+
+abbrev μ-loop : tie.MeasureT-loop
+μ-loop out₀ block i₀ out i = blockLength - i
+
+loop-holds : tie.Need-loop-holds Inv-loop μ-loop
+loop-holds c = search needs
+
+array-read-out : tie.Need-array-read-out Inv-loop μ-loop
+array-read-out c = search needs
+
+slice-write-out : tie.Need-slice-write-out Inv-loop μ-loop
+slice-write-out c = search needs
+
+add-i : tie.Need-add-i Inv-loop μ-loop
+add-i c = search needs
+
+loop-less : tie.Need-loop-less Inv-loop μ-loop
+loop-less c = search needs
+
+loop-again : tie.Need-loop-again Inv-loop μ-loop
+loop-again c =
+    let v = c .before .loop in
+    let b = c .before .before .args .t1 in
+    let n = c .before .before .good .0 .1 .0 .1 in
+    (omega arith, simp length-set (v .inv .1), copy-more b (v .out) (v .i) (omega arith) (omega (arith, n)) (v .inv .2))
+
+same-length : tie.Need-same-length Inv-loop μ-loop
+same-length c = search needs
+
+returns : tie.Need-returns Inv-loop μ-loop
+returns c =
+    let v = c .before .loop in
+    let b = c .before .before .args .t1 in
+    let n = c .before .before .good .0 .1 .0 .1 in
+    copy-done b (v .out) (v .i) (omega arith) (omega (arith, n)) (v .inv .2)
+
+pub copy-spec : {M : Type 1} → statement M
+copy-spec =
+    tie.close
+    (tie.spec
+    Inv-loop
+    μ-loop
+    loop-holds
+    array-read-out
+    slice-write-out
+    add-i
+    loop-less
+    loop-again
+    same-length
+    returns)

@@ -1,0 +1,57 @@
+use mathlib.Core.Path.{refl, sym, ap, _∙_}
+use borrow.Author.Needs.{needs}
+use Rattle.refusals.specs.Refusals.{refusalOf}
+use Rattle.writer.proofs.WritingLaws.{writes-whole}
+use Rattle.writer.proofs.write_whole.Statement.{statement}
+use Rattle.writer.proofs.write_whole.Tie as tie
+
+refuse-requires : tie.Need-refuse-requires
+refuse-requires c κs = search needs
+
+enum-told : tie.Need-enum-told
+enum-told c = search needs
+
+encode-requires : tie.Need-encode-requires
+encode-requires c κs = search needs
+
+copy-requires : tie.Need-copy-requires
+copy-requires c κs = search needs
+
+enum-known-refusal : tie.Need-enum-known-refusal
+enum-known-refusal c = search needs
+
+enum-known-refusal-2 : tie.Need-enum-known-refusal-2
+enum-known-refusal-2 c = search needs
+
+same-length : tie.Need-same-length
+same-length c = search needs
+
+returns : tie.Need-returns
+returns c =
+    let a = c .before .before .before .before .before .before .before .before .before .args in
+    writes-whole (a .t) (a .out .now) _ _ (c .before .before .before .before .before .before .before .before .before .pre) (sym (ap refusalOf (c .before .before .before .before .before .enum-told .given .1)) ∙ c .before .before .before .before .before .before .before .refuse .ensures) (c .before .before .copy .ensures ∙ c .before .before .before .before .encode .ensures)
+
+returns-2 : tie.Need-returns-2
+returns-2 c =
+    let a = c .before .before .before .before .before .args in
+    writes-whole (a .t) (a .out .now) _ _ (c .before .before .before .before .before .pre) (sym (ap refusalOf (c .before .refusal .given .1)) ∙ c .before .before .before .refuse .ensures) refl
+
+returns-3 : tie.Need-returns-3
+returns-3 c =
+    let a = c .before .before .before .before .before .args in
+    writes-whole (a .t) (a .out .now) _ _ (c .before .before .before .before .before .pre) (sym (ap refusalOf (c .before .refusal2 .given .1)) ∙ c .before .before .before .refuse .ensures) refl
+
+pub write-whole-spec : {M : Type 1} → statement M
+write-whole-spec =
+    tie.close
+    (tie.spec
+    refuse-requires
+    enum-told
+    encode-requires
+    copy-requires
+    enum-known-refusal
+    enum-known-refusal-2
+    same-length
+    returns
+    returns-2
+    returns-3)

@@ -1,0 +1,150 @@
+//! The stored stream of `writes`: good tables, tables that each of the lines 5 to 11 refuses,
+//! and buffers of other lengths.
+
+use super::breaches::{base, base_block, breaches};
+use super::prng::Prng;
+use super::random::any_table;
+use crate::encode::encode;
+use crate::layout::{BLOCK_LENGTH, MAX_EVENTS, MAX_LOCATIONS};
+use crate::litmus::{self, *};
+use crate::raw::{RawEvent, RawTable, SLOTS};
+use crate::table::Table;
+
+const SEED: u64 = 4;
+const RANDOM_TABLES: usize = 40;
+
+pub fn make_writes() -> Vec<u8> {
+    let mut prng = Prng::new(SEED);
+    let families = [
+        litmus::all().iter().map(|(_, test)| raw(test)).collect(),
+        largest(),
+        (0..RANDOM_TABLES).map(|_| raw(&any_table(&mut prng))).collect(),
+        broken_blocks(),
+        past_a_block(),
+        fences_only(),
+    ];
+    let mut stream = Vec::new();
+    for table in families.concat() {
+        push_call(&mut stream, &table, BLOCK_LENGTH);
+    }
+    for length in [0, 1, 511, 513, 1024] {
+        push_call(&mut stream, &raw(&base()), length);
+        push_call(&mut stream, &RawTable { harts: 9, ..raw(&base()) }, length);
+    }
+    stream
+}
+
+fn push_call(stream: &mut Vec<u8>, table: &RawTable, buffer_length: usize) {
+    table.push_to(stream);
+    stream.extend(u16::try_from(buffer_length).expect("a length has two bytes").to_le_bytes());
+}
+
+fn raw(table: &Table) -> RawTable {
+    RawTable::of_block(&encode(table))
+}
+
+/// Every field as large as it may be.
+fn largest() -> Vec<RawTable> {
+    let table = table(vec![load(3, 7, 65535); MAX_EVENTS]);
+    let stated = (0..MAX_LOCATIONS).fold(table, |t, l| t.with_final(l, 65535));
+    vec![raw(&Table { initial: [65535; MAX_LOCATIONS], ..stated })]
+}
+
+/// The fields of each block that breaks a clause. What isn't a field of a table is forgotten:
+/// a table of such a block is good.
+fn broken_blocks() -> Vec<RawTable> {
+    let broken = breaches().into_iter().map(|breach| {
+        let mut block = base_block();
+        breach.apply(&mut block);
+        RawTable::of_block(&block)
+    });
+    broken.collect()
+}
+
+/// The base with one event changed.
+fn with_event(number: usize, change: fn(&mut RawEvent)) -> RawTable {
+    let mut table = raw(&base());
+    change(&mut table.events[number]);
+    table
+}
+
+/// What no block of edition 1 holds: slots past its records, and masks of more than 16 bits.
+fn past_a_block() -> Vec<RawTable> {
+    let mut full = raw(&table(vec![load(0, X, 0); MAX_EVENTS]));
+    full.events[MAX_EVENTS] = full.events[0];
+    vec![
+        with_event(MAX_EVENTS, |event| event.kind = 1),
+        with_event(SLOTS - 1, |event| event.written = 1),
+        with_event(SLOTS - 1, |event| event.control = 1 << 31),
+        with_event(12, |event| event.address = 1 << 16),
+        full.clone(),
+        RawTable { count: 17, ..full.clone() },
+        RawTable { count: 32, ..full },
+        // A load, a store, an SC; a fence, and one with line 8 broken before it.
+        with_event(0, |event| event.address = 1 << 16),
+        with_event(7, |event| event.control = 1 | 1 << 31),
+        with_event(8, |event| event.data = 1 << 20),
+        with_event(10, |event| event.data |= 1 << 16),
+        with_event(3, |event| event.address = 1 << 16),
+        with_event(6, |event| event.data = 1 << 31),
+        with_event(11, |event| {
+            event.flags = 3;
+            event.address = 1 << 31;
+        }),
+    ]
+}
+
+fn fences_only() -> Vec<RawTable> {
+    vec![
+        raw(&table(vec![fence(0, FULL), fence_tso(0)])),
+        raw(&table(vec![fence(0, 0); MAX_EVENTS])),
+    ]
+}
+
+#[cfg(test)]
+mod tests {
+    use super::*;
+    use crate::raw::write;
+    use crate::stream::{Stream, PREFILL};
+    use crate::table::{read, Line};
+
+    /// What isn't refused is read back, and what is leaves the buffer alone.
+    #[test]
+    fn every_stored_table_is_written_and_read_back_or_refused() {
+        let bytes = make_writes();
+        let mut stream = Stream::new(&bytes);
+        let mut refusals = Vec::new();
+        while !stream.is_empty() {
+            let table = RawTable::take_from(&mut stream).unwrap();
+            let mut buffer = vec![PREFILL; stream.word().unwrap().into()];
+            match write(&table, &mut buffer) {
+                Ok(()) => {
+                    assert!(read(&buffer).is_ok());
+                    assert_eq!(RawTable::of_block(&buffer), table);
+                }
+                Err(refusal) => {
+                    assert!(buffer.iter().all(|&byte| byte == PREFILL));
+                    refusals.push(refusal.line as u8);
+                }
+            }
+        }
+        for line in [Line::Length as u8].into_iter().chain(5..=11) {
+            assert!(refusals.contains(&line), "no table is refused by {line}");
+        }
+    }
+
+    /// A block that passes the lines 1 to 4 and has its spare bytes zero is refused as its
+    /// fields are.
+    #[test]
+    fn reading_and_writing_refuse_alike() {
+        for breach in breaches() {
+            let mut block = base_block();
+            breach.apply(&mut block);
+            let table = RawTable::of_block(&block);
+            let written = write(&table, &mut [0; BLOCK_LENGTH]);
+            if breach.line as u8 >= Line::Fields as u8 || breach.line == Line::Ranges {
+                assert_eq!(written.err(), read(&block).err());
+            }
+        }
+    }
+}

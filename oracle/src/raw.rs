@@ -1,0 +1,203 @@
+//! A table as the writer is handed it: plain numbers, which can hold what the lines 5 to 11
+//! refuse; and writing one.
+
+use crate::encode::encode;
+use crate::layout::*;
+use crate::stream::{Malformed, Stream};
+use crate::table::{
+    fields_broken, names_location, refuse_if, refuse_table, Event, Kind, Line, Refusal, Table,
+};
+
+/// How many events such a table has room for.
+pub const SLOTS: usize = 32;
+
+#[derive(Clone, Copy, Default, PartialEq, Eq, Debug)]
+pub struct RawEvent {
+    pub kind: u8,
+    pub hart: u8,
+    pub location: u8,
+    pub flags: u8,
+    pub address: u32,
+    pub data: u32,
+    pub control: u32,
+    pub read: u16,
+    pub written: u16,
+}
+
+#[derive(Clone, PartialEq, Eq, Debug)]
+pub struct RawTable {
+    pub harts: u8,
+    pub locations: u8,
+    pub count: u8,
+    pub stated: u8,
+    pub initial: [u16; MAX_LOCATIONS],
+    pub events: [RawEvent; SLOTS],
+    pub finals: [u16; MAX_LOCATIONS],
+}
+
+impl RawTable {
+    /// The fields of a block of 512 bytes, whatever they are.
+    pub fn of_block(block: &[u8]) -> RawTable {
+        let values = |at: fn(usize) -> usize| std::array::from_fn(|l| word(block, at(l)));
+        let mut events = [RawEvent::default(); SLOTS];
+        for (number, event) in events[..MAX_EVENTS].iter_mut().enumerate() {
+            *event = RawEvent::of_record(&block[record_at(number)..record_at(number + 1)]);
+        }
+        RawTable {
+            harts: block[HARTS_AT],
+            locations: block[LOCATIONS_AT],
+            count: block[EVENTS_AT],
+            stated: block[STATED_AT],
+            initial: values(initial_at),
+            events,
+            finals: values(final_at),
+        }
+    }
+
+    /// The fields in their order, as a struct of C without padding holds them.
+    pub fn push_to(&self, stream: &mut Vec<u8>) {
+        stream.extend([self.harts, self.locations, self.count, self.stated]);
+        stream.extend(self.initial.iter().flat_map(|value| value.to_le_bytes()));
+        for event in &self.events {
+            stream.extend([event.kind, event.hart, event.location, event.flags]);
+            let masks = [event.address, event.data, event.control];
+            stream.extend(masks.iter().flat_map(|mask| mask.to_le_bytes()));
+            stream.extend([event.read, event.written].iter().flat_map(|v| v.to_le_bytes()));
+        }
+        stream.extend(self.finals.iter().flat_map(|value| value.to_le_bytes()));
+    }
+
+    /// What `push_to` writes.
+    pub fn take_from(stream: &mut Stream) -> Result<RawTable, Malformed> {
+        let [harts, locations, count, stated] =
+            [stream.byte()?, stream.byte()?, stream.byte()?, stream.byte()?];
+        let initial = take_values(stream)?;
+        let mut events = [RawEvent::default(); SLOTS];
+        for event in &mut events {
+            *event = RawEvent::take_from(stream)?;
+        }
+        let finals = take_values(stream)?;
+        Ok(RawTable { harts, locations, count, stated, initial, events, finals })
+    }
+}
+
+impl RawEvent {
+    fn of_record(record: &[u8]) -> RawEvent {
+        RawEvent {
+            kind: record[field::KIND],
+            hart: record[field::HART],
+            location: record[field::LOCATION],
+            flags: record[field::FLAGS],
+            address: word(record, field::ADDRESS).into(),
+            data: word(record, field::DATA).into(),
+            control: word(record, field::CONTROL).into(),
+            read: word(record, field::READ),
+            written: word(record, field::WRITTEN),
+        }
+    }
+
+    fn take_from(stream: &mut Stream) -> Result<RawEvent, Malformed> {
+        let [kind, hart, location, flags] =
+            [stream.byte()?, stream.byte()?, stream.byte()?, stream.byte()?];
+        let [address, data, control] = [stream.mask()?, stream.mask()?, stream.mask()?];
+        let [read, written] = [stream.word()?, stream.word()?];
+        Ok(RawEvent { kind, hart, location, flags, address, data, control, read, written })
+    }
+
+    /// The event, or none if its kind is out of range.
+    fn typed(&self) -> Option<Event> {
+        Some(Event {
+            kind: Kind::from_number(self.kind)?,
+            hart: self.hart.into(),
+            location: self.location.into(),
+            flags: self.flags,
+            address: self.address,
+            data: self.data,
+            control: self.control,
+            read: self.read,
+            written: self.written,
+        })
+    }
+}
+
+fn take_values(stream: &mut Stream) -> Result<[u16; MAX_LOCATIONS], Malformed> {
+    let mut values = [0; MAX_LOCATIONS];
+    for value in &mut values {
+        *value = stream.word()?;
+    }
+    Ok(values)
+}
+
+/// "from a table, the 512 bytes into a lent buffer. .. A table that reading would refuse by 5
+/// to 11 is refused by the same number; a buffer that isn't 512 bytes by 1; refusals leave the
+/// buffer alone."
+pub fn write(raw: &RawTable, buffer: &mut [u8]) -> Result<(), Refusal> {
+    refuse_if(buffer.len() != BLOCK_LENGTH, Line::Length)?;
+    refuse_if(ranges_broken(raw), Line::Ranges)?;
+    refuse_if(zeros_broken(raw), Line::Zeros)?;
+    let table = typed(raw)?;
+    refuse_table(&table)?;
+    buffer.copy_from_slice(&encode(&table));
+    Ok(())
+}
+
+/// 5: "harts, locations or events out of range, or the final mask names a location not in
+/// the test"
+fn ranges_broken(raw: &RawTable) -> bool {
+    let in_range = |number: u8, most: usize| (1..=most).contains(&number.into());
+    !in_range(raw.harts, MAX_HARTS)
+        || !in_range(raw.locations, MAX_LOCATIONS)
+        || !in_range(raw.count, MAX_EVENTS)
+        || (raw.locations.into()..MAX_LOCATIONS).any(|l| names_location(raw.stated, l))
+}
+
+/// 6, of a table: "initial values of locations not in the test, final values not stated,
+/// records past the events"
+fn zeros_broken(raw: &RawTable) -> bool {
+    let unstated = |l: &usize| !names_location(raw.stated, *l);
+    raw.initial[raw.locations.into()..].iter().any(|&value| value != 0)
+        || (0..MAX_LOCATIONS).filter(unstated).any(|l| raw.finals[l] != 0)
+        || raw.events[raw.count.into()..].iter().any(|&event| event != RawEvent::default())
+}
+
+/// The events of a table that the lines 5 and 6 don't refuse; refuses by 7.
+fn typed(raw: &RawTable) -> Result<Table, Refusal> {
+    let mut table = Table {
+        harts: raw.harts.into(),
+        locations: raw.locations.into(),
+        stated: raw.stated,
+        initial: raw.initial,
+        finals: raw.finals,
+        events: Vec::new(),
+    };
+    for (number, event) in raw.events[..raw.count.into()].iter().enumerate() {
+        let in_range = event.typed().filter(|event| !fields_broken(&table, event));
+        table.events.push(in_range.ok_or(Refusal { line: Line::Fields, record: Some(number) })?);
+    }
+    Ok(table)
+}
+
+#[cfg(test)]
+mod tests {
+    use super::*;
+    use crate::litmus;
+    use crate::table::read;
+
+    #[test]
+    fn what_was_written_is_read_back() {
+        for (_, test) in litmus::all() {
+            let mut block = [0xEE; BLOCK_LENGTH];
+            assert_eq!(write(&RawTable::of_block(&encode(&test)), &mut block), Ok(()));
+            assert_eq!(read(&block), Ok(test));
+        }
+    }
+
+    #[test]
+    fn a_table_is_streamed_in_676_bytes() {
+        let table = RawTable::of_block(&encode(&litmus::c1()));
+        let mut stream = Vec::new();
+        table.push_to(&mut stream);
+        assert_eq!(stream.len(), 676);
+        assert_eq!(RawTable::take_from(&mut Stream::new(&stream)).unwrap(), table);
+    }
+}
