@@ -1,8 +1,10 @@
-//! Links the proved static library, which `rt staticlib capi` makes.
+//! Says where the proved static libraries are, which `rt staticlib` makes.
 
 fn main() {
     let package = std::env::var("CARGO_MANIFEST_DIR").expect("cargo names the package's folder");
-    println!("cargo:rustc-link-search=native={package}/../target/staticlib");
-    println!("cargo:rustc-link-lib=static=capi");
-    println!("cargo:rerun-if-changed={package}/../target/staticlib/libcapi.a");
+    let folder = format!("{package}/../target/staticlib");
+    println!("cargo:rustc-link-search=native={folder}");
+    for name in ["capi", "check_speed"] {
+        println!("cargo:rerun-if-changed={folder}/lib{name}.a");
+    }
 }

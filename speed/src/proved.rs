@@ -3,6 +3,7 @@
 use crate::plain::Answer;
 use crate::reading::Refusal;
 
+#[link(name = "capi", kind = "static")]
 extern "C" {
     fn ct_search(
         block: *const u8,

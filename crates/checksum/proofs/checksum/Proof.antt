@@ -1,47 +1,90 @@
--- `checksum`: the sum is the weighted sum of the bytes passed, and each turn adds little.
-use Prim.Native.Nat.{_*_, _-_, _≤_}
-use mathlib.Core.Path.{_≡_, _∙_}
+-- `checksum`: the rows from `at` on are summed, and each turn adds the row before them.
+use Prim.Native.Nat.{ℕ, _*_, _-_, _%_, _≤_}
+use mathlib.Core.Path.{_≡_, refl, ap}
 use native.Mathlib.Omega.{arith}
-use lib.ListN.{take}
+use lib.ListN.{take, drop}
 use borrow.Author.Needs.{needs}
-use Rattle.checksum.specs.Checksum.{covered, weightedFrom}
-use Rattle.checksum.proofs.ChecksumLaws.{weighted-more, weighted-done}
+use Rattle.checksum.specs.Checksum.{covered, weightedFrom, checksum}
+use Rattle.checksum.specs.Lanes.{lanes, plain}
+use Rattle.checksum.proofs.LaneLaws.{Summed, summed-small, rows-last, rows-more}
 use Rattle.checksum.proofs.checksum.Statement.{statement}
 use Rattle.checksum.proofs.checksum.Tie as tie
 
 abbrev Inv-loop : tie.InvT-loop
-Inv-loop s sum₀ i₀ sum i = (i ≤ covered) × (sum ≡ weightedFrom 0 (take i s)) × (sum ≤ covered * 255 * i)
+Inv-loop s sums₀ steps₀ at₀ sums steps at =
+    (at ≤ covered - lanes)
+    × (at % lanes ≡ 0)
+    × Summed lanes (drop at (take covered s)) sums steps
+    × (plain sums ≤ 255 * (covered - at))
+    × (plain steps ≤ 255 * covered * (covered - at))
 
 abbrev μ-loop : tie.MeasureT-loop
-μ-loop s sum₀ i₀ sum i = covered - i
+μ-loop s sums₀ steps₀ at₀ sums steps at = at
+
+row-requires : tie.Need-row-requires Inv-loop μ-loop
+row-requires c κs = search needs
 
 loop-holds : tie.Need-loop-holds Inv-loop μ-loop
-unfolding weightedFrom
-loop-holds c = search needs
+unfolding plain
+loop-holds c =
+    let s = c .before .before .args .s .now in (
+      omega arith,
+      refl,
+      rows-last (covered - lanes) lanes covered s _ _ refl (c .before .before .pre) (c .row .ensures .0) refl refl,
+      c .row .ensures .1,
+      omega arith,
+    )
 
-shared-slice-read-weighted : tie.Need-shared-slice-read-weighted Inv-loop μ-loop
-shared-slice-read-weighted c = search needs
+sub-at : tie.Need-sub-at Inv-loop μ-loop
+sub-at c = search needs
 
-weighted-requires : tie.Need-weighted-requires Inv-loop μ-loop
-weighted-requires c κs = search needs
+add-requires : tie.Need-add-requires Inv-loop μ-loop
+add-requires c κs = search needs
 
-add-sum : tie.Need-add-sum Inv-loop μ-loop
-add-sum c = search needs
+row-requires-2 : tie.Need-row-requires-2 Inv-loop μ-loop
+row-requires-2 c κs = search needs
 
-add-i : tie.Need-add-i Inv-loop μ-loop
-add-i c = search needs
+add-requires-2 : tie.Need-add-requires-2 Inv-loop μ-loop
+add-requires-2 c κs = search needs
 
 loop-less : tie.Need-loop-less Inv-loop μ-loop
 loop-less c = search needs
 
 loop-again : tie.Need-loop-again Inv-loop μ-loop
 loop-again c =
+    let start = c .before .before .before .before .before .before .before in
+    let v = c .before .before .before .before .loop in
+    let row = c .before .row2 in
+    let turn =
+    rows-more (v .at - lanes) lanes (v .at) covered (start .args .s .now) (row .result) (v .sums) (v .steps)
+    (omega arith) (omega arith) (start .pre) (row .ensures .0) (v .inv .2)
+    in
+    rw (c .add2 .ensures, c .before .before .add .ensures) (
+      omega arith,
+      omega arith,
+      turn .0,
+      omega (arith, turn .1, row .ensures .1),
+      omega (arith, turn .2),
+    )
+
+times-lanes-requires : tie.Need-times-lanes-requires Inv-loop μ-loop
+times-lanes-requires c κs = search needs
+
+by-place-requires : tie.Need-by-place-requires Inv-loop μ-loop
+by-place-requires c κs = search needs
+
+add-result : tie.Need-add-result Inv-loop μ-loop
+add-result c =
     let v = c .before .before .before .loop in
-    let w = weighted-more (c .before .before .before .before .before .args .s .now) (v .i) (omega arith) in
-    (omega arith, omega (arith, w), omega arith)
+    omega (arith, summed-small _ _ _ _ (v .inv .2), c .by-place .ensures, c .before .times-lanes .ensures)
 
 returns : tie.Need-returns Inv-loop μ-loop
-returns c = c .before .loop .inv .1 ∙ weighted-done _ _ (c .before .loop .inv .0) (omega arith)
+unfolding checksum
+returns c =
+    let v = c .before .before .before .loop in
+    let s = c .before .before .before .before .before .before .args .s .now in
+    let whole : v .at ≡ 0 = omega arith in
+    omega (arith, v .inv .2 .weighed, ap (λ (at : ℕ). weightedFrom 0 (drop at (take covered s))) whole)
 
 pub checksum-spec : {M : Type 1} → statement M
 checksum-spec =
@@ -49,11 +92,15 @@ checksum-spec =
     (tie.spec
     Inv-loop
     μ-loop
+    row-requires
     loop-holds
-    shared-slice-read-weighted
-    weighted-requires
-    add-sum
-    add-i
+    sub-at
+    add-requires
+    row-requires-2
+    add-requires-2
     loop-less
     loop-again
+    times-lanes-requires
+    by-place-requires
+    add-result
     returns)

@@ -2,10 +2,10 @@
 use mathlib.Core.Path.{refl}
 use native.Mathlib.Omega.{arith}
 use borrow.Author.Needs.{needs}
 use Rattle.checksum.specs.Checksum.{covered}
-use Rattle.checksum.proofs.ChecksumLaws.{weighted-small}
-use Rattle.checksum.proofs.weighted.Statement.{statement}
-use Rattle.checksum.proofs.weighted.Tie as tie
+use Rattle.check_speed.proofs.WeightLaws.{weighted-small}
+use Rattle.check_speed.proofs.weighted.Statement.{statement}
+use Rattle.check_speed.proofs.weighted.Tie as tie
 
 cast-result : tie.Need-cast-result
 cast-result c = search needs

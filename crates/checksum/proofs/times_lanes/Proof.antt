@@ -1,0 +1,51 @@
+-- `times_lanes`: the sum of four lanes, doubled twice.
+use native.Mathlib.Omega.{arith}
+use borrow.Author.Needs.{needs}
+use Rattle.checksum.proofs.LaneLaws.{plain-lanes}
+use Rattle.checksum.proofs.times_lanes.Statement.{statement}
+use Rattle.checksum.proofs.times_lanes.Tie as tie
+
+array-read-once : tie.Need-array-read-once
+array-read-once c = search needs
+
+array-read-once-2 : tie.Need-array-read-once-2
+array-read-once-2 c = search needs
+
+add-once : tie.Need-add-once
+add-once c = omega (arith, plain-lanes (c .args .t1) (c .good .0 .1 .0 .1))
+
+array-read-once-3 : tie.Need-array-read-once-3
+array-read-once-3 c = search needs
+
+add-once-2 : tie.Need-add-once-2
+add-once-2 c = omega (arith, plain-lanes (c .args .t1) (c .good .0 .1 .0 .1))
+
+array-read-once-4 : tie.Need-array-read-once-4
+array-read-once-4 c = search needs
+
+add-once-3 : tie.Need-add-once-3
+add-once-3 c = omega (arith, plain-lanes (c .args .t1) (c .good .0 .1 .0 .1))
+
+add-twice : tie.Need-add-twice
+add-twice c = omega (arith, plain-lanes (c .args .t1) (c .good .0 .1 .0 .1))
+
+add-result : tie.Need-add-result
+add-result c = omega (arith, plain-lanes (c .args .t1) (c .good .0 .1 .0 .1))
+
+returns : tie.Need-returns
+returns c = omega (arith, plain-lanes (c .args .t1) (c .good .0 .1 .0 .1))
+
+pub times-lanes-spec : {M : Type 1} → statement M
+times-lanes-spec =
+    tie.close
+    (tie.spec
+    array-read-once
+    array-read-once-2
+    add-once
+    array-read-once-3
+    add-once-2
+    array-read-once-4
+    add-once-3
+    add-twice
+    add-result
+    returns)
