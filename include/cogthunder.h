@@ -12,12 +12,13 @@
  * The word
  * --------
  * All functions but ct_blocks answer by one word. Byte 0, the lowest, is the case; bytes that the table doesn't name are 0.
+ * A set of rules is in bytes 4 and 5: bit r - 1, counted from the lowest of byte 4, is rule r, from 1 to 13.
  *
  *   case                   byte 1              byte 2                      byte 3        bytes 4 to 7
- *   0  good                -                   -                           -             -
+ *   0  good                -                   -                           -             ct_rules: set of rules
  *   1  refused             number of refusal   record, or 255 if no        -             -
  *                                              record is named
- *   2  preserved order     event a             event b                     lowest rule   -
+ *   2  preserved order     event a             event b                     lowest rule   set of rules
  *   3  load value          reader              -                           -             -
  *   4  atomicity           LR                  writer                      -             -
  *   5  value read          reader              -                           -             -
@@ -76,6 +77,10 @@ enum ct_case {
 #define CT_BYTE2(word) ((unsigned)((word) >> 16 & 0xff))
 #define CT_BYTE3(word) ((unsigned)((word) >> 24 & 0xff))
 #define CT_VISITED(word) ((uint32_t)((word) >> 32))
+#define CT_RULES(word) ((uint16_t)((word) >> 32 & 0xffff))
+
+/* Whether rule r, from 1 to 13, is in a set. */
+#define CT_HAS_RULE(rules, r) (((rules) >> ((r) - 1) & 1) == 1)
 
 /* An event of a table. Bit k of a mask (bit 0 lowest) names event k. */
 struct ct_event {
@@ -118,6 +123,14 @@ uint64_t ct_write(struct ct_table table, uint8_t *out, size_t out_len);
  */
 uint64_t ct_verdict(const uint8_t *block, size_t block_len, const uint8_t *returned, size_t returned_len,
                     const uint8_t *order, size_t order_len);
+
+/*
+ * Every rule by which preserved program order puts event `a` before event `b`, with the returns given: any numbers, and
+ * `returned` as for a candidate. Case 0: the set of these rules, which is empty unless both are memory events of the test
+ * and `a` is earlier on the same hart. Case 1: refusal 1 to 12 or 14.
+ */
+uint64_t ct_rules(const uint8_t *block, size_t block_len, const uint8_t *returned, size_t returned_len, uint64_t a,
+                  uint64_t b);
 
 /*
  * Writes the returned list that an order determines to the front of `out`, which has room for an entry for each event

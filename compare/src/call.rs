@@ -1,7 +1,7 @@
 //! One call, and its outcome by the library and by the independent program.
 
 use crate::lent::Room;
-use cogthunder::{Answer, Axiom, Event, Refusal, Table, Verdict, Witnesses};
+use cogthunder::{Answer, Axiom, Event, Refusal, Rules, Table, Verdict, Witnesses};
 use oracle::raw::{RawEvent, RawTable};
 use oracle::search::MAX_ALLOWANCE;
 use std::fmt;
@@ -24,6 +24,11 @@ pub enum Entry {
     Verdict {
         returned: Vec<u8>,
         order: Vec<u8>,
+    },
+    Rules {
+        returned: Vec<u8>,
+        a: u64,
+        b: u64,
     },
     Returns {
         order: Vec<u8>,
@@ -48,6 +53,7 @@ pub enum Reply {
     Good,
     Refused { number: u8, record: Option<u8> },
     Broken(Axiom),
+    Rules(Rules),
     Searched(Answer),
     Blocks(u64),
     Witnesses { orders: Vec<Vec<u8>>, visited: u64 },
@@ -104,6 +110,9 @@ impl Library {
                     Ok(Verdict::Broken(axiom)) => Reply::Broken(axiom),
                 }
             }
+            Entry::Rules { returned, a, b } => {
+                cogthunder::rules(block, self.first.lend(returned), *a, *b).map_or_else(Reply::from, Reply::Rules)
+            }
             Entry::Returns { order, out } => cogthunder::returns(block, self.first.lend(order), self.second.lend(out))
                 .map_or_else(Reply::from, |()| Reply::Good),
             Entry::Search { start, out, allowance } => {
@@ -140,7 +149,8 @@ impl Entry {
         match self {
             Entry::Read | Entry::Write { .. } | Entry::Blocks => (None, None),
             Entry::Verdict { returned, order } => (Some(returned), Some(order)),
-            Entry::Returns { order: list, .. }
+            Entry::Rules { returned: list, .. }
+            | Entry::Returns { order: list, .. }
             | Entry::Search { start: list, .. }
             | Entry::Witnesses { start: list, .. } => (Some(list), None),
         }
@@ -201,6 +211,8 @@ fn reference_reply(call: &Call, buffer: &mut [u8]) -> Reply {
             Ok(None) => Reply::Good,
             Ok(Some(axiom)) => Reply::Broken(same_axiom(axiom)),
         },
+        Entry::Rules { returned, a, b } => oracle::candidate::pair_rules(block, returned, *a, *b)
+            .map_or_else(Reply::from, |rules| Reply::Rules(same_rules(&rules))),
         Entry::Returns { order, .. } => {
             oracle::candidate::write_returned(block, order, buffer).map_or_else(Reply::from, |()| Reply::Good)
         }
@@ -229,10 +241,16 @@ fn same_event(raw: RawEvent) -> Event {
     event
 }
 
+fn same_rules(rules: &[usize]) -> Rules {
+    rules.iter().map(|&rule| rule as u8).collect()
+}
+
 fn same_axiom(axiom: oracle::rules::Axiom) -> Axiom {
     use oracle::rules::Axiom as Other;
     match axiom {
-        Other::PreservedOrder { a, b, rule } => Axiom::PreservedOrder { a: a as u8, b: b as u8, rule: rule as u8 },
+        Other::PreservedOrder { a, b, rules } => {
+            Axiom::PreservedOrder { a: a as u8, b: b as u8, rules: same_rules(&rules) }
+        }
         Other::LoadValue { reader } => Axiom::LoadValue { reader: reader as u8 },
         Other::Atomicity { lr, writer } => Axiom::Atomicity { lr: lr as u8, writer: writer as u8 },
         Other::ValueRead { reader } => Axiom::ValueRead { reader: reader as u8 },
@@ -275,6 +293,7 @@ impl Entry {
             Entry::Read => "read",
             Entry::Write { .. } => "write",
             Entry::Verdict { .. } => "verdict",
+            Entry::Rules { .. } => "rules",
             Entry::Returns { .. } => "returns",
             Entry::Search { .. } => "search",
             Entry::Blocks => "blocks",

@@ -5,7 +5,7 @@ use crate::comparison::{Comparison, Difference};
 use crate::writes::writes;
 use cogthunder::Answer;
 use oracle::encode::encode;
-use oracle::generate::candidates::{choose_outcome, contended_table, other_return, returned_list, with_swap};
+use oracle::generate::candidates::{any_pair, choose_outcome, contended_table, other_return, returned_list, with_swap};
 use oracle::generate::damage::damaged;
 use oracle::generate::orders::*;
 use oracle::generate::prng::Prng;
@@ -139,7 +139,7 @@ fn any_order(prng: &mut Prng, table: &Table) -> Vec<usize> {
     }
 }
 
-/// Both entries on an order of a table: lists that are right, or nearly so.
+/// The entries on an order of a table, and the rules of a pair: lists that are right, or nearly so.
 fn candidate(prng: &mut Prng, calls: &mut Calls, table: &Table, order: &[usize]) -> Result<(), Box<Difference>> {
     let mut returned = returned_list(table, order);
     let mut order = bytes(order);
@@ -151,7 +151,9 @@ fn candidate(prng: &mut Prng, calls: &mut Calls, table: &Table, order: &[usize])
     }
     let room = any_buffer_length(prng, table.events.len());
     let out = some_bytes(prng, room);
-    calls.call(Entry::Verdict { returned, order: order.clone() })?;
+    let (a, b) = any_pair(prng, table);
+    calls.call(Entry::Verdict { returned: returned.clone(), order: order.clone() })?;
+    calls.call(Entry::Rules { returned, a, b })?;
     calls.call(Entry::Returns { order, out })?;
     Ok(())
 }

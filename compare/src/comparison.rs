@@ -51,7 +51,7 @@ mod tests {
     use crate::call::{Entry, Library, Reference, Reply};
     use crate::cases::round;
     use crate::lent::Room;
-    use cogthunder::{Answer, Axiom};
+    use cogthunder::{Answer, Axiom, Rules};
     use oracle::encode::encode;
     use oracle::generate::prng::Prng;
     use oracle::layout::{CHECK_AT, EVENTS_AT};
@@ -86,12 +86,27 @@ mod tests {
     #[test]
     fn a_forgotten_fence_is_shown_by_two_events_and_the_fence() {
         let found = difference(|_, outcome| {
-            if matches!(outcome.reply, Reply::Broken(Axiom::PreservedOrder { rule: 4, .. })) {
-                outcome.reply = Reply::Good;
+            if let Reply::Broken(Axiom::PreservedOrder { rules, .. }) = outcome.reply {
+                if rules == Rules::from_iter([4]) {
+                    outcome.reply = Reply::Good;
+                }
             }
         });
         assert_eq!(found.call.block[EVENTS_AT], 3);
-        assert_eq!(found.reference.reply, Reply::Broken(Axiom::PreservedOrder { a: 0, b: 2, rule: 4 }));
+        let rules = Rules::from_iter([4]);
+        assert_eq!(found.reference.reply, Reply::Broken(Axiom::PreservedOrder { a: 0, b: 2, rules }));
+    }
+
+    #[test]
+    fn a_rule_missing_from_the_set_of_a_pair_is_shown_by_two_events() {
+        let found = difference(|_, outcome| {
+            if let Reply::Rules(rules) = &mut outcome.reply {
+                *rules = rules.iter().filter(|&rule| rule != 3).collect();
+            }
+        });
+        assert_eq!(found.call.block[EVENTS_AT], 2);
+        assert!(matches!(found.call.entry, Entry::Rules { a: 0, b: 1, .. }));
+        assert!(matches!(found.reference.reply, Reply::Rules(rules) if rules.contains(3)));
     }
 
     #[test]
@@ -151,8 +166,9 @@ mod tests {
     }
 
     #[test]
-    fn the_samples_of_the_package_are_the_papers_c1_and_c2() {
+    fn the_samples_of_the_package_are_the_papers_c1_c2_and_c5() {
         assert_eq!(encode(&litmus::c1()), include_bytes!("../../samples/C1.block"));
         assert_eq!(encode(&litmus::c2()), include_bytes!("../../samples/C2.block"));
+        assert_eq!(encode(&litmus::c5()), include_bytes!("../../samples/C5.block"));
     }
 }

@@ -7,7 +7,7 @@ use oracle::layout::*;
 use oracle::raw::{RawEvent, RawTable};
 use oracle::stream::Stream;
 
-/// Takes smaller calls as long as one has the property. Each has fewer events, shorter lists, a smaller allowance or a
+/// Takes smaller calls as long as one has the property. Each has fewer events, shorter lists, a smaller number or a
 /// smaller byte, so that this ends.
 pub fn shrink(mut call: Call, mut has_property: impl FnMut(&Call) -> bool) -> Call {
     loop {
@@ -48,12 +48,16 @@ fn changed(block: &[u8], change: impl FnOnce(&mut [u8])) -> Vec<u8> {
 }
 
 /// The number of an event once event k is gone.
-fn renumbered(event: u8, k: usize) -> u8 {
-    if usize::from(event) > k && usize::from(event) < MAX_EVENTS {
+fn renumbered(event: u64, k: usize) -> u64 {
+    if event > k as u64 && event < MAX_EVENTS as u64 {
         event - 1
     } else {
         event
     }
+}
+
+fn renumbered_byte(event: u8, k: usize) -> u8 {
+    renumbered(event.into(), k) as u8
 }
 
 fn without_event(call: &Call, k: usize) -> Call {
@@ -68,11 +72,14 @@ fn without_event(call: &Call, k: usize) -> Call {
         }
     });
     let list = |list: &[u8]| -> Vec<u8> {
-        list.iter().filter(|&&event| usize::from(event) != k).map(|&event| renumbered(event, k)).collect()
+        list.iter().filter(|&&event| usize::from(event) != k).map(|&event| renumbered_byte(event, k)).collect()
     };
     let entry = match call.entry.clone() {
         Entry::Verdict { returned, order } => {
             Entry::Verdict { returned: returned_without(&returned, k), order: list(&order) }
+        }
+        Entry::Rules { returned, a, b } => {
+            Entry::Rules { returned: returned_without(&returned, k), a: renumbered(a, k), b: renumbered(b, k) }
         }
         Entry::Returns { order, out } => Entry::Returns { order: list(&order), out },
         Entry::Search { start, out, allowance } => Entry::Search { start: list(&start), out, allowance },
@@ -95,7 +102,7 @@ fn returned_without(returned: &[u8], k: usize) -> Vec<u8> {
     let entry = |entry: u8| match entry {
         NON_READER | INITIAL => entry,
         _ if usize::from(entry) == k => INITIAL,
-        _ => renumbered(entry, k),
+        _ => renumbered_byte(entry, k),
     };
     let others = returned.iter().enumerate().filter(|&(event, _)| event != k);
     others.map(|(_, &writer)| entry(writer)).collect()
@@ -122,6 +129,12 @@ fn smaller_entries(entry: &Entry) -> Vec<Entry> {
         Entry::Verdict { returned, order } => {
             entries.extend(shorter(returned).map(|returned| Entry::Verdict { returned, order: order.clone() }));
             entries.extend(shorter(order).map(|order| Entry::Verdict { returned: returned.clone(), order }));
+        }
+        Entry::Rules { returned, a, b } => {
+            let with = |returned: &[u8], a, b| Entry::Rules { returned: returned.to_vec(), a, b };
+            entries.extend(shorter(returned).map(|returned| with(&returned, *a, *b)));
+            entries.extend(smaller_numbers(*a).map(|a| with(returned, a, *b)));
+            entries.extend(smaller_numbers(*b).map(|b| with(returned, *a, b)));
         }
         Entry::Returns { order, out } => {
             entries.extend(shorter(order).map(|order| Entry::Returns { order, out: out.clone() }));

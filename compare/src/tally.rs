@@ -1,7 +1,7 @@
 //! How many calls were made, and what they gave.
 
 use crate::call::{Call, Entry, Outcome, Reply};
-use cogthunder::{Answer, Axiom};
+use cogthunder::{Answer, Axiom, Rules};
 use std::collections::BTreeMap;
 use std::fmt;
 
@@ -10,8 +10,6 @@ const REFUSALS: std::ops::RangeInclusive<u8> = 1..=17;
 /// What a table can be refused by.
 const TABLE_REFUSALS: [u8; 8] = [1, 5, 6, 7, 8, 9, 10, 11];
 const RULES: std::ops::RangeInclusive<u8> = 1..=13;
-/// Never the lowest rule: rule 1 holds of an LR and its SC too.
-const PAIRED: u8 = 8;
 
 const VERDICTS: [&str; 6] = ["allowed", "preserved order", "load value", "atomicity", "value read", "final value"];
 const SEARCHES: [&str; 3] = ["found", "none left", "spent"];
@@ -22,6 +20,7 @@ pub struct Tally {
     entries: BTreeMap<&'static str, u64>,
     refusals: BTreeMap<u8, u64>,
     verdicts: BTreeMap<&'static str, u64>,
+    /// In how many sets each rule was: of verdicts, and of pairs.
     rules: BTreeMap<u8, u64>,
     searches: BTreeMap<&'static str, u64>,
     written: u64,
@@ -47,6 +46,12 @@ fn search_name(answer: &Answer) -> &'static str {
 }
 
 impl Tally {
+    fn count_rules(&mut self, rules: Rules) {
+        for rule in rules.iter() {
+            *self.rules.entry(rule).or_default() += 1;
+        }
+    }
+
     pub fn count(&mut self, call: &Call, outcome: &Outcome) {
         self.calls += 1;
         *self.entries.entry(call.entry.name()).or_default() += 1;
@@ -57,10 +62,11 @@ impl Tally {
             Reply::Refused { number, .. } => *self.refusals.entry(*number).or_default() += 1,
             Reply::Broken(axiom) => {
                 *self.verdicts.entry(verdict_name(axiom)).or_default() += 1;
-                if let Axiom::PreservedOrder { rule, .. } = axiom {
-                    *self.rules.entry(*rule).or_default() += 1;
+                if let Axiom::PreservedOrder { rules, .. } = axiom {
+                    self.count_rules(*rules);
                 }
             }
+            Reply::Rules(rules) => self.count_rules(*rules),
             Reply::Good if call.entry.name() == "verdict" => *self.verdicts.entry(VERDICTS[0]).or_default() += 1,
             Reply::Searched(answer) => *self.searches.entry(search_name(answer)).or_default() += 1,
             Reply::Good | Reply::Blocks(_) | Reply::Witnesses { .. } => {}
@@ -77,7 +83,7 @@ impl Tally {
     /// What no call gave, though some call can.
     pub fn unmet(&self) -> Vec<String> {
         let refusals = REFUSALS.filter(|n| !self.refusals.contains_key(n)).map(|n| format!("refusal {n}"));
-        let rules = RULES.filter(|&n| n != PAIRED && !self.rules.contains_key(&n)).map(|n| format!("rule {n}"));
+        let rules = RULES.filter(|n| !self.rules.contains_key(n)).map(|n| format!("rule {n}"));
         let verdicts = VERDICTS.iter().filter(|&name| !self.verdicts.contains_key(name)).map(|name| name.to_string());
         let searches = SEARCHES.iter().filter(|&name| !self.searches.contains_key(name)).map(|name| name.to_string());
         let not_written = TABLE_REFUSALS.iter().filter(|&n| !self.not_written.contains_key(n));

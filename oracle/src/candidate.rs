@@ -1,6 +1,7 @@
-//! The entries for candidates: the verdict, and the returned list that an order determines.
+//! The entries for candidates: the verdict, the rules of a pair, and the returned list that an
+//! order determines.
 
-use crate::rules::{determined_returns, first_broken, Axiom, Write};
+use crate::rules::{determined_returns, first_broken, preserved_by, Axiom, RuleSet, Write};
 use crate::table::{read, refuse_if, Line, Refusal, Table};
 
 /// Entries of a returned list: "a non-reader's entry isn't 254, or a reader's is neither 255
@@ -14,10 +15,22 @@ pub fn verdict(block: &[u8], returned: &[u8], order: &[u8]) -> Result<Option<Axi
     let wrong_length = has_wrong_length(&table, order) || returned.len() != table.events.len();
     refuse_if(wrong_length, Line::ListLength)?;
     let order = decode_order(&table, order)?;
-    let is_broken = |event: usize| returned_entry_broken(&table, event, returned[event]);
-    refuse_if((0..table.events.len()).any(is_broken), Line::ReturnedEntries)?;
-    let returns: Vec<Option<Write>> = returned.iter().map(|&entry| decode_entry(entry)).collect();
+    let returns = decode_returned(&table, returned)?;
     Ok(first_broken(&table, &order, &returns))
+}
+
+/// "ask by itself whether a is before b, of a table and a returned list (refused as for a
+/// candidate)": "the whole set of rules that hold", "empty unless both are memory events of the
+/// test and a is earlier on the same hart".
+pub fn pair_rules(block: &[u8], returned: &[u8], a: u64, b: u64) -> Result<RuleSet, Refusal> {
+    let table = read(block)?;
+    refuse_if(returned.len() != table.events.len(), Line::ListLength)?;
+    let returns = decode_returned(&table, returned)?;
+    let event = |number: u64| (0..table.events.len()).find(|&event| event as u64 == number);
+    match (event(a), event(b)) {
+        (Some(a), Some(b)) => Ok(preserved_by(&table, &returns, a, b)),
+        _ => Ok(RuleSet::new()),
+    }
 }
 
 /// "One further entry writes the returned list that an order determines; bytes past it stay."
@@ -44,6 +57,13 @@ fn decode_order(table: &Table, order: &[u8]) -> Result<Vec<usize>, Refusal> {
     sorted.sort();
     refuse_if(sorted != table.memory_events(), Line::OrderEvents)?;
     Ok(order)
+}
+
+/// Refuses a list with an entry for each event by 14.
+fn decode_returned(table: &Table, returned: &[u8]) -> Result<Vec<Option<Write>>, Refusal> {
+    let is_broken = |event: usize| returned_entry_broken(table, event, returned[event]);
+    refuse_if((0..table.events.len()).any(is_broken), Line::ReturnedEntries)?;
+    Ok(returned.iter().map(|&entry| decode_entry(entry)).collect())
 }
 
 /// 14, for one event's entry.
@@ -91,8 +111,8 @@ mod tests {
     }
 
     #[test]
-    fn c5_breaks_rule_2_though_rule_3_holds_too() {
-        let broken = Axiom::PreservedOrder { a: 0, b: 1, rule: 2 };
+    fn c5_breaks_rules_2_and_3() {
+        let broken = Axiom::PreservedOrder { a: 0, b: 1, rules: vec![2, 3] };
         assert_eq!(judge(&c5(), &[INITIAL, 0], &[1, 0]), Some(broken));
         assert_eq!(judge(&c5(), &[INITIAL, 0], &[0, 1]), None);
     }
@@ -116,7 +136,7 @@ mod tests {
     fn a_control_dependency_does_not_order_a_later_load() {
         let returned = [NON_READER, NON_READER, NON_READER, 2, INITIAL];
         assert_eq!(judge(&c9_control(), &returned, &[4, 0, 2, 3]), None);
-        let broken = Axiom::PreservedOrder { a: 3, b: 4, rule: 9 };
+        let broken = Axiom::PreservedOrder { a: 3, b: 4, rules: vec![9] };
         assert_eq!(judge(&c9_address(), &returned, &[4, 0, 2, 3]), Some(broken));
     }
 
@@ -124,7 +144,7 @@ mod tests {
     fn rule_2_compares_writes_and_not_values() {
         let mut test = table(vec![load(0, X, 1), load(0, X, 1), store(1, X, 1)]);
         test.initial[X] = 1;
-        let broken = Axiom::PreservedOrder { a: 0, b: 1, rule: 2 };
+        let broken = Axiom::PreservedOrder { a: 0, b: 1, rules: vec![2] };
         assert_eq!(judge(&test, &[2, INITIAL, NON_READER], &[1, 2, 0]), Some(broken));
         assert_eq!(judge(&test, &[2, 2, NON_READER], &[2, 1, 0]), None);
     }
@@ -135,9 +155,9 @@ mod tests {
     }
 
     #[test]
-    fn rule_8_is_never_the_lowest() {
+    fn rule_8_holds_beside_rule_1() {
         let pair = table(vec![lr(0, X, 0), sc(0, X, 1)]);
-        let broken = Axiom::PreservedOrder { a: 0, b: 1, rule: 1 };
+        let broken = Axiom::PreservedOrder { a: 0, b: 1, rules: vec![1, 8] };
         assert_eq!(judge(&pair, &[INITIAL, NON_READER], &[1, 0]), Some(broken));
     }
 
@@ -150,6 +170,40 @@ mod tests {
         assert_eq!(verdict(&block, &[0, 0], &[1, 0]), Err(refused(Line::ReturnedEntries)));
         assert_eq!(verdict(&block, &[NON_READER, 1], &[1, 0]), Err(refused(Line::ReturnedEntries)));
         assert_eq!(verdict(&block, &good, &[1, 0]), Ok(None));
+    }
+
+    #[test]
+    fn the_rules_of_c5_are_2_and_3() {
+        let block = encode(&c5());
+        assert_eq!(pair_rules(&block, &[INITIAL, 0], 0, 1), Ok(vec![2, 3]));
+        assert_eq!(pair_rules(&block, &[INITIAL, INITIAL], 0, 1), Ok(vec![]));
+    }
+
+    #[test]
+    fn no_rules_but_of_two_memory_events_in_program_order() {
+        let full = || fence(0, FULL);
+        let test = table(vec![load(0, X, 0), full(), store(0, X, 1), full(), store(1, X, 2)]);
+        let returned = [INITIAL, NON_READER, NON_READER, NON_READER, NON_READER];
+        let rules = |a: u64, b: u64| pair_rules(&encode(&test), &returned, a, b);
+        assert_eq!(rules(0, 2), Ok(vec![1, 4]));
+        for (a, b) in [(2, 0), (0, 0), (0, 1), (0, 3), (1, 2), (0, 4), (2, 4)] {
+            assert_eq!(rules(a, b), Ok(vec![]), "{a} {b}");
+        }
+        for past in [5, 16, 255, 256, 1 << 32, (1 << 32) + 2, u64::MAX] {
+            assert_eq!(rules(0, past), Ok(vec![]));
+            assert_eq!(rules(past, 2), Ok(vec![]));
+        }
+    }
+
+    #[test]
+    fn pairs_are_refused_as_candidates_are() {
+        let block = encode(&c4(1));
+        let rules = |returned: &[u8]| pair_rules(&block, returned, 0, 1);
+        assert_eq!(pair_rules(&block[1..], &[], 0, 1), Err(refused(Line::Length)));
+        assert_eq!(rules(&[NON_READER]), Err(refused(Line::ListLength)));
+        assert_eq!(rules(&[0, 0, 0]), Err(refused(Line::ListLength)));
+        assert_eq!(rules(&[0, 0]), Err(refused(Line::ReturnedEntries)));
+        assert_eq!(rules(&[NON_READER, 0]), Ok(vec![]));
     }
 
     #[test]

@@ -39,24 +39,26 @@ const RULES: [Rule; RULE_COUNT] = [
     Rule::Steady(write_after_a_dependent_address),
 ];
 
+/// The numbers of some rules, ascending.
+pub type RuleSet = Vec<usize>;
+
 /// "Preserved order puts a before b if a is earlier on the same hart, both are memory events,
-/// and one holds": the number of the lowest rule that does.
-pub fn preserved_by(table: &Table, returns: &Returns, a: usize, b: usize) -> Option<usize> {
-    let holds = |rule: &Rule| match rule {
+/// and one holds": all that do.
+pub fn preserved_by(table: &Table, returns: &Returns, a: usize, b: usize) -> RuleSet {
+    rules_of(table, a, b, |rule| match rule {
         Rule::Steady(holds) => holds(table, a, b),
         Rule::Returned(holds) => holds(table, returns, a, b),
-    };
-    if !may_be_preserved(table, a, b) {
-        return None;
-    }
-    RULES.iter().position(holds).map(|place| place + 1)
+    })
 }
 
-/// The numbers of the steady rules that put a before b.
-pub fn steady_rules(table: &Table, a: usize, b: usize) -> Vec<usize> {
-    let holds = |rule: &Rule| matches!(rule, Rule::Steady(holds) if holds(table, a, b));
+/// The steady rules that put a before b.
+pub fn steady_rules(table: &Table, a: usize, b: usize) -> RuleSet {
+    rules_of(table, a, b, |rule| matches!(rule, Rule::Steady(holds) if holds(table, a, b)))
+}
+
+fn rules_of(table: &Table, a: usize, b: usize, holds: impl Fn(&Rule) -> bool) -> RuleSet {
     if !may_be_preserved(table, a, b) {
-        return Vec::new();
+        return RuleSet::new();
     }
     (1..).zip(&RULES).filter(|(_, rule)| holds(rule)).map(|(number, _)| number).collect()
 }
@@ -170,9 +172,9 @@ fn write_after_a_dependent_address(table: &Table, a: usize, b: usize) -> bool {
 }
 
 /// What a candidate breaks, with its place.
-#[derive(Clone, Copy, PartialEq, Eq, Debug)]
+#[derive(Clone, PartialEq, Eq, Debug)]
 pub enum Axiom {
-    PreservedOrder { a: usize, b: usize, rule: usize },
+    PreservedOrder { a: usize, b: usize, rules: RuleSet },
     LoadValue { reader: usize },
     Atomicity { lr: usize, writer: usize },
     ValueRead { reader: usize },
@@ -200,15 +202,14 @@ fn precedes(order: &[usize], a: usize, b: usize) -> bool {
     place(a) < place(b)
 }
 
-/// "the lowest a, and for that a the lowest b, with the lowest rule, using the returns given"
+/// "the lowest a, and for that a the lowest b, .. using the returns given", with "the whole set
+/// of rules that hold"
 fn broken_preserved_order(table: &Table, order: &[usize], returns: &Returns) -> Option<Axiom> {
     for a in table.memory_events() {
         for b in table.memory_events() {
-            match preserved_by(table, returns, a, b) {
-                Some(rule) if !precedes(order, a, b) => {
-                    return Some(Axiom::PreservedOrder { a, b, rule });
-                }
-                _ => {}
+            let rules = preserved_by(table, returns, a, b);
+            if !rules.is_empty() && !precedes(order, a, b) {
+                return Some(Axiom::PreservedOrder { a, b, rules });
             }
         }
     }

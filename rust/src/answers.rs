@@ -1,27 +1,11 @@
 //! What the bench answers, and each answer in words.
 
+use crate::rules::Rules;
 use std::error::Error;
 use std::fmt;
 
 /// A line `N<TAB>words` for each refusal, from 1.
 const REFUSALS: &str = include_str!("../../docs/refusals.txt");
-
-/// The rules of preserved program order in words, from rule 1.
-const RULES: [&str; 13] = [
-    "a later write to the same location",
-    "reads of one location that return from different writes",
-    "a read that returns from an earlier AMO or SC",
-    "a fence between",
-    "an acquire before",
-    "a release after",
-    "two RCsc annotations",
-    "an LR and its SC",
-    "an address dependency",
-    "a data dependency",
-    "a control dependency of a write",
-    "a read of a write that depends on the first",
-    "a write after an access whose address depends on the first",
-];
 
 /// Why the bench declines its input. Nothing was altered.
 ///
@@ -86,8 +70,8 @@ pub enum Axiom {
         a: u8,
         /// The lowest event that `a` has to precede and stands after.
         b: u8,
-        /// The lowest rule, from 1 to 13, that puts `a` before `b`.
-        rule: u8,
+        /// All rules that put `a` before `b`.
+        rules: Rules,
     },
     /// A reader doesn't return from the write that the order gives it.
     LoadValue {
@@ -116,9 +100,8 @@ pub enum Axiom {
 impl fmt::Display for Axiom {
     fn fmt(&self, f: &mut fmt::Formatter) -> fmt::Result {
         match *self {
-            Axiom::PreservedOrder { a, b, rule } => {
-                let words = RULES[usize::from(rule) - 1];
-                write!(f, "event {a} has to come before event {b} by rule {rule} ({words}), and doesn't")
+            Axiom::PreservedOrder { a, b, rules } => {
+                write!(f, "event {a} has to come before event {b} by {rules}, and doesn't")
             }
             Axiom::LoadValue { reader } => {
                 write!(f, "event {reader} doesn't return from the latest write to its location that it sees")
@@ -189,10 +172,12 @@ mod tests {
             "refused 10 at record 3: the SC isn't paired: the nearest earlier LR or SC on its hart isn't an LR to the \
              same location"
         );
-        let broken = Verdict::Broken(Axiom::PreservedOrder { a: 0, b: 2, rule: 4 });
+        let rules = Rules::from_iter([4, 5]);
+        let broken = Verdict::Broken(Axiom::PreservedOrder { a: 0, b: 2, rules });
         assert_eq!(
             broken.to_string(),
-            "not allowed: event 0 has to come before event 2 by rule 4 (a fence between), and doesn't"
+            "not allowed: event 0 has to come before event 2 by rules 4 (a fence between) and 5 (an acquire before), and \
+             doesn't"
         );
         assert_eq!(Verdict::Allowed.to_string(), "allowed");
         assert_eq!(Answer::NoneLeft { visited: 18 }.to_string(), "no witness left, 18 prefixes visited");

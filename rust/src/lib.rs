@@ -32,11 +32,13 @@
 
 mod answers;
 mod library;
+mod rules;
 mod table;
 mod witnesses;
 
 pub use answers::{Answer, Axiom, Refusal, Verdict};
-pub use library::{blocks, read, returns, search, verdict, write};
+pub use library::{blocks, read, returns, rules, search, verdict, write};
+pub use rules::Rules;
 pub use table::{Accesses, Annotation, Event, Table};
 pub use witnesses::Witnesses;
 

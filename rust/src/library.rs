@@ -1,6 +1,7 @@
 //! The proved functions, each answer of which is one word.
 
 use crate::answers::{Answer, Axiom, Refusal, Verdict};
+use crate::rules::Rules;
 use crate::table::Table;
 
 extern "C" {
@@ -16,6 +17,8 @@ extern "C" {
         order: *const u8,
         order_len: usize,
     ) -> u64;
+
+    fn ct_rules(block: *const u8, block_len: usize, returned: *const u8, returned_len: usize, a: u64, b: u64) -> u64;
 
     fn ct_returns(
         block: *const u8,
@@ -66,6 +69,12 @@ fn parts(word: u64) -> Result<[u8; 4], Refusal> {
     }
 }
 
+/// Bytes 4 and 5 of a word: a set of rules.
+fn rules_part(word: u64) -> Rules {
+    let [_, _, _, _, low, high, ..] = word.to_le_bytes();
+    Rules::of_bits(u16::from_le_bytes([low, high]))
+}
+
 /// Reads a block. It is refused by 1 to 11.
 ///
 /// ```
@@ -108,13 +117,13 @@ pub fn write(table: &Table, out: &mut [u8]) -> Result<(), Refusal> {
 /// doesn't read. It is refused by 1 to 14.
 ///
 /// ```
-/// use cogthunder::{verdict, Axiom, Verdict, INITIALLY, NOTHING};
+/// use cogthunder::{verdict, Axiom, Rules, Verdict, INITIALLY, NOTHING};
 ///
 /// let block = include_bytes!(concat!(env!("CARGO_MANIFEST_DIR"), "/../samples/C2.block"));
 /// // Event 3 reads what event 2 stored, event 5 the initial value; 1 and 4 are fences.
 /// let returned = [NOTHING, NOTHING, NOTHING, 2, NOTHING, INITIALLY];
 /// let broken = verdict(block, &returned, &[2, 3, 5, 0])?;
-/// assert_eq!(broken, Verdict::Broken(Axiom::PreservedOrder { a: 0, b: 2, rule: 4 }));
+/// assert_eq!(broken, Verdict::Broken(Axiom::PreservedOrder { a: 0, b: 2, rules: Rules::from_iter([4]) }));
 /// assert_eq!(
 ///     broken.to_string(),
 ///     "not allowed: event 0 has to come before event 2 by rule 4 (a fence between), and doesn't"
@@ -125,16 +134,44 @@ pub fn verdict(block: &[u8], returned: &[u8], order: &[u8]) -> Result<Verdict, R
     let word = unsafe {
         ct_verdict(block.as_ptr(), block.len(), returned.as_ptr(), returned.len(), order.as_ptr(), order.len())
     };
-    let [case, first, second, third] = parts(word)?;
+    let [case, first, second, _] = parts(word)?;
     Ok(Verdict::Broken(match case {
         GOOD => return Ok(Verdict::Allowed),
-        PRESERVED_ORDER => Axiom::PreservedOrder { a: first, b: second, rule: third },
+        PRESERVED_ORDER => Axiom::PreservedOrder { a: first, b: second, rules: rules_part(word) },
         LOAD_VALUE => Axiom::LoadValue { reader: first },
         ATOMICITY => Axiom::Atomicity { lr: first, writer: second },
         VALUE_READ => Axiom::ValueRead { reader: first },
         FINAL_VALUE => Axiom::FinalValue { location: first },
         _ => unreachable!("a verdict has no other case"),
     }))
+}
+
+/// Every rule by which preserved program order puts event `a` before event `b`, with the returns given: any numbers, and
+/// `returned` as for a candidate. The set is empty unless both are memory events of the test and `a` is earlier on the
+/// same hart. It is refused by 1 to 12 and 14.
+///
+/// ```
+/// use cogthunder::{rules, INITIALLY};
+///
+/// let block = include_bytes!(concat!(env!("CARGO_MANIFEST_DIR"), "/../samples/C5.block"));
+/// // Event 1, a load, returns from event 0, an AMO.
+/// let returned = [INITIALLY, 0];
+/// let found = rules(block, &returned, 0, 1)?;
+/// assert_eq!(found.iter().collect::<Vec<u8>>(), [2, 3]);
+/// assert_eq!(
+///     found.to_string(),
+///     "rules 2 (reads of one location that return from different writes) and 3 (a read that returns from an earlier AMO \
+///      or SC)"
+/// );
+///
+/// assert!(rules(block, &returned, 1, 0)?.is_empty());
+/// assert!(rules(block, &returned, 0, u64::MAX)?.is_empty());
+/// assert_eq!(rules(block, &[INITIALLY], 0, 1).unwrap_err().number, 12);
+/// # Ok::<(), cogthunder::Refusal>(())
+/// ```
+pub fn rules(block: &[u8], returned: &[u8], a: u64, b: u64) -> Result<Rules, Refusal> {
+    let word = unsafe { ct_rules(block.as_ptr(), block.len(), returned.as_ptr(), returned.len(), a, b) };
+    parts(word).map(|_| rules_part(word))
 }
 
 /// Writes the returned list that an order determines to the front of `out`, an entry for each event; bytes past it stay.
@@ -203,4 +240,20 @@ pub fn search(block: &[u8], start: &[u8], out: &mut [u8], allowance: u64) -> Res
 /// ```
 pub fn blocks(suite: &[u8]) -> u64 {
     unsafe { ct_blocks(suite.as_ptr(), suite.len()) }
+}
+
+#[cfg(test)]
+mod tests {
+    use super::*;
+    use crate::INITIALLY;
+
+    #[test]
+    fn the_word_of_a_preserved_order_break_has_the_lowest_rule_and_the_set() {
+        let block = include_bytes!("../../samples/C5.block");
+        let (returned, order) = ([INITIALLY, 0], [1, 0]);
+        let word = unsafe { ct_verdict(block.as_ptr(), block.len(), returned.as_ptr(), 2, order.as_ptr(), 2) };
+        assert_eq!(word.to_le_bytes(), [PRESERVED_ORDER, 0, 1, 2, 0b110, 0, 0, 0]);
+        let word = unsafe { ct_rules(block.as_ptr(), block.len(), returned.as_ptr(), 2, 0, 1) };
+        assert_eq!(word.to_le_bytes(), [GOOD, 0, 0, 0, 0b110, 0, 0, 0]);
+    }
 }

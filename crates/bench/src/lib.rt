@@ -1,10 +1,12 @@
 // The public entries on bytes. Each takes any bytes, lists and numbers, refuses for itself, and has no `requires`.
 use block::Reading;
+use edition::EventNo;
 use refusals::Refusal;
 use search::Reply;
 use table::Table;
 use verdict::Verdict;
 ghost use mathlib.Core.Path.{_≡_};
+ghost use lib.ListN.{length};
 ghost use Rattle.refusals.specs.Lines.{firstLine};
 ghost use Rattle.refusals.specs.Refusals.{refusalOf};
 ghost use Rattle.block.specs.Reading.{readRefusal, readTable};
@@ -18,7 +20,15 @@ ghost use Rattle.search.specs.Running.{Small};
 ghost use Rattle.search.specs.Replies.{replyOf};
 ghost use Rattle.suite_part.specs.Part.{blockOf, blockCount};
 ghost use Rattle.bench.specs.Candidate.{candidateLines, orderLines, judgedUnless, verdictOf, returnsRefusal, returnsBuffer};
+ghost use Rattle.rules.specs.RuleMask.{rulesIn};
+ghost use Rattle.bench.specs.PairRules.{returnedLines, rulesBetween, ruledUnless, rulesOf, ruledOf};
 ghost use Rattle.bench.specs.Search.{searchReply, searchBuffer};
+
+// The rules of a pair: a set, bit r - 1 for rule r.
+pub enum PairRules {
+    Refused(Refusal),
+    Held(u16),
+}
 
 // The number of memory events.
 fn total(t: Table) -> usize
@@ -64,6 +74,39 @@ fn determine(t: Table, order: &[u8], out: &mut [u8]) -> Refusal
     Refusal::None
 }
 
+// The set of rules by which a is before b; empty for numbers that are no memory events in program order.
+fn held(t: Table, returned: &[u8], a: u64, b: u64) -> u16
+    requires { ⌜ Small t × (length (now returned) ≡ t .count) ⌝ }
+    ensures { λ r. ⌜ rulesIn r ≡ rulesBetween t (now (returned .entry)) a b ⌝ }
+{
+    if b >= t.count as u64 {
+        return 0;
+    }
+    if a >= b {
+        return 0;
+    }
+    let first = EventNo(a as u8);
+    let second = EventNo(b as u8);
+    if !static_rules::may_order(first, t.events[a as usize], second, t.events[b as usize]) {
+        return 0;
+    }
+    rules::rule_set(t, returned, first, second)
+}
+
+// The rules of a pair of a table: 12, 14, then the set.
+fn pair(t: Table, returned: &[u8], a: u64, b: u64) -> PairRules
+    requires { ⌜ Small t ⌝ }
+    ensures { λ r. ⌜ ruledOf r ≡ ruledUnless (firstLine (t .count) (returnedLines t (now (returned .entry)))) (rulesBetween t (now (returned .entry)) a b) ⌝ }
+{
+    if returned.len() != t.count as usize {
+        return PairRules::Refused(Refusal::Line(12));
+    }
+    if candidate::returned_wrong(t, returned) {
+        return PairRules::Refused(Refusal::Line(14));
+    }
+    PairRules::Held(held(t, returned, a, b))
+}
+
 // Reading a block: refusals 1 to 11, and the table.
 pub fn read(bytes: &[u8]) -> Reading
     ensures { λ r. ⌜ (refusalOf (r .refusal) ≡ readRefusal (now (bytes .entry))) × (r .table ≡ readTable (now (bytes .entry))) ⌝ }
@@ -104,6 +147,20 @@ pub fn verdict(bytes: &[u8], returned: &[u8], order: &[u8]) -> Verdict
         Refusal::None => judge(t, returned, order),
         Refusal::Line(n) => Verdict::Refused(Refusal::Line(n)),
         Refusal::Record(n, k) => Verdict::Refused(Refusal::Record(n, k)),
+    }
+}
+
+// Every rule by which preserved program order puts a before b, with the returns given.
+pub fn rules(bytes: &[u8], returned: &[u8], a: u64, b: u64) -> PairRules
+    ensures { λ r. ⌜ ruledOf r ≡ rulesOf (now (bytes .entry)) (now (returned .entry)) a b ⌝ }
+{
+    let reading = block::read(bytes);
+    let refusal = reading.refusal;
+    let t = reading.table;
+    match refusal {
+        Refusal::None => pair(t, returned, a, b),
+        Refusal::Line(n) => PairRules::Refused(Refusal::Line(n)),
+        Refusal::Record(n, k) => PairRules::Refused(Refusal::Record(n, k)),
     }
 }
 

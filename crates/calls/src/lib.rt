@@ -40,7 +40,7 @@ pub fn block(buffer: &mut [u8]) -> usize {
 }
 
 // A number of eight bytes, the lowest first.
-pub fn allowance() -> u64 {
+pub fn number() -> u64 {
     let a = console::word();
     let b = console::word();
     let c = console::word();

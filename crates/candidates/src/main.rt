@@ -1,4 +1,5 @@
-// Reads a stream of candidates, and of orders whose returned lists are asked for, and prints a line for each.
+// Reads a stream of candidates, of pairs whose rules and of orders whose returned lists are asked for, and prints a line for each.
+use bench::PairRules;
 use console::Input;
 use console::Line;
 use edition::EventNo;
@@ -6,10 +7,15 @@ use refusals::Refusal;
 use verdict::Axiom;
 use verdict::Verdict;
 
-// A verdict, and a returned list that an order determines.
+// A verdict, a returned list that an order determines, and the rules of a pair.
 const VERDICT: u8 = b'V';
 
 const RETURNED: u8 = b'D';
+
+const RULES: u8 = b'R';
+
+// How many rules a set has room for.
+const ROOM: u64 = 16;
 
 // What a part of the stream did.
 enum Effect {
@@ -22,14 +28,29 @@ fn event(line: Line, e: EventNo) -> Line {
     line.item(b" ", e.0)
 }
 
-fn preserved_order(line: Line, a: EventNo, b: EventNo, rule: u8) -> Line {
+// The numbers of a set, whose bit r - 1 is rule r.
+fn rules(line: Line, set: u16) -> Line {
+    let mut said = line.text(b"rules");
+    let mut rest = set;
+    let mut rule: u64 = 1;
+    while rule <= ROOM {
+        if rest % 2 == 1 {
+            said = said.spaced(rule);
+        }
+        rest /= 2;
+        rule += 1;
+    }
+    said
+}
+
+fn preserved_order(line: Line, a: EventNo, b: EventNo, set: u16) -> Line {
     let pair = event(event(line.text(b"preserved order"), a), b);
-    pair.item(b" rule ", rule)
+    rules(pair.text(b" "), set)
 }
 
 fn axiom(line: Line, broken: Axiom) -> Line {
     match broken {
-        Axiom::PreservedOrder(a, b, rule) => preserved_order(line, a, b, rule),
+        Axiom::PreservedOrder(a, b, set) => preserved_order(line, a, b, set),
         Axiom::LoadValue(reader) => event(line.text(b"load value"), reader),
         Axiom::Atomicity(lr, writer) => event(event(line.text(b"atomicity"), lr), writer),
         Axiom::ValueRead(reader) => event(line.text(b"value read"), reader),
@@ -79,6 +100,23 @@ fn read_returns(k: u64, block: &[u8]) {
     returns(k, block, console::front(&order, n), &mut answer[..size]);
 }
 
+fn pair(k: u64, block: &[u8], returned: &[u8]) {
+    let a = calls::number();
+    let b = calls::number();
+    let line = calls::begin(k);
+    let said = match bench::rules(block, returned, a, b) {
+        PairRules::Refused(r) => words::refused(line, r),
+        PairRules::Held(set) => rules(line, set),
+    };
+    said.end();
+}
+
+fn read_pair(k: u64, block: &[u8]) {
+    let mut returned = [0u8; calls::LIST];
+    let entries = calls::list(&mut returned);
+    pair(k, block, console::front(&returned, entries));
+}
+
 fn call(tag: u8, k: u64, block: &mut [u8], size: usize) -> Effect {
     if tag == calls::LEND {
         return Effect::Lent(calls::block(block));
@@ -90,6 +128,10 @@ fn call(tag: u8, k: u64, block: &mut [u8], size: usize) -> Effect {
     }
     if tag == RETURNED {
         read_returns(k, bytes);
+        return Effect::Called;
+    }
+    if tag == RULES {
+        read_pair(k, bytes);
         return Effect::Called;
     }
     Effect::End

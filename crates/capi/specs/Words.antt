@@ -1,9 +1,13 @@
--- An answer as one word of 64 bits, for C: byte 0 is its case, bytes 1 to 3 its values, bytes 4 to 7 the visited number.
-use Prim.Native.Nat.{ℕ, _+_, _*_}
-use lib.ListN.{length}
+-- An answer as one word of 64 bits, for C: byte 0 is its case, bytes 1 to 3 its values, bytes 4 to 7 the visited
+-- number or, in bytes 4 and 5, a set of rules.
+use Prim.Native.Nat.{ℕ, _+_, _*_, _-_, _^_}
+use mathlib.Core.List.{List, [], _∷_}
+use lib.ListN.{length, getD}
 use Rattle.refusals.specs.Lines.{Refused, accepted, byLine, byRecord}
 use Rattle.model.specs.Verdict.{Verdict, allowed, brokenPpo, brokenLoadValue, brokenAtomicity, brokenValueRead, brokenFinalValue}
 use Rattle.verdict.specs.Judged.{Judged, declined, judged}
+use Rattle.bench.specs.PairRules as pair
+use Rattle.bench.specs.PairRules.{Ruled, ruled}
 use Rattle.prefixes.specs.Answer.{Answer, found, noneLeft, spent}
 use Rattle.prefixes.specs.Walk.{Reply, refused, answered}
 
@@ -20,10 +24,19 @@ refusalWord accepted = word 0 0 0 0 0
 refusalWord (byLine n) = word 1 n noRecord 0 0
 refusalWord (byRecord n k) = word 1 n k 0 0
 
--- 0: allowed; 2 to 6: the axiom with its place
+-- a set of rules: bit r - 1 for rule r
+unfoldable pub rulesMask : List ℕ → ℕ
+rulesMask [] = 0
+rulesMask (r ∷ rs) = 2 ^ (r - 1) + rulesMask rs
+
+-- the lowest of a set
+unfoldable pub lowestOf : List ℕ → ℕ
+lowestOf rs = getD rs 0 0
+
+-- 0: allowed; 2 to 6: the axiom with its place, 2 with the set of rules in bytes 4 and 5
 abbrev pub verdictWord : Verdict → ℕ
 verdictWord allowed = word 0 0 0 0 0
-verdictWord (brokenPpo a b rule) = word 2 a b rule 0
+verdictWord (brokenPpo a b rules) = word 2 a b (lowestOf rules) (rulesMask rules)
 verdictWord (brokenLoadValue reader) = word 3 reader 0 0 0
 verdictWord (brokenAtomicity lr writer) = word 4 lr writer 0 0
 verdictWord (brokenValueRead reader) = word 5 reader 0 0 0
@@ -32,6 +45,11 @@ verdictWord (brokenFinalValue location) = word 6 location 0 0 0
 abbrev pub judgedWord : Judged → ℕ
 judgedWord (declined r) = refusalWord r
 judgedWord (judged v) = verdictWord v
+
+-- 0: the set of rules in bytes 4 and 5
+abbrev pub ruledWord : Ruled → ℕ
+ruledWord (pair.declined r) = refusalWord r
+ruledWord (ruled rules) = word 0 0 0 0 (rulesMask rules)
 
 -- 7: found; 8: none left; 9: spent; with the number of entries that were written
 abbrev pub answerWord : Answer → ℕ

@@ -1,4 +1,5 @@
 // The bench for C: each entry on bytes, with its answer in one word of 64 bits. Nothing is required of a caller.
+use bench::PairRules;
 use refusals::Refusal;
 use search::Outcome;
 use search::Reply;
@@ -15,9 +16,11 @@ ghost use Rattle.verdict.specs.Judged.{axiomOf, judgedOf};
 ghost use Rattle.search.specs.Outcome.{outcomeOf};
 ghost use Rattle.search.specs.Replies.{replyOf};
 ghost use Rattle.suite_part.specs.Part.{blockCount};
+ghost use Rattle.rules.specs.RuleMask.{rulesIn};
+ghost use Rattle.bench.specs.PairRules.{rulesOf, ruledOf};
 ghost use Rattle.bench.specs.Candidate.{verdictOf, returnsRefusal, returnsBuffer};
 ghost use Rattle.bench.specs.Search.{searchReply, searchBuffer};
-ghost use Rattle.capi.specs.Words.{word, refusalWord, verdictWord, judgedWord, answerWord, replyWord};
+ghost use Rattle.capi.specs.Words.{word, refusalWord, rulesMask, lowestOf, verdictWord, judgedWord, ruledWord, answerWord, replyWord};
 ghost use Rattle.capi.specs.Fits.{AnswerFits, ReplyFits};
 
 // The case of an answer: byte 0 of its word.
@@ -78,11 +81,31 @@ fn refusal_word(refusal: Refusal) -> u64
     }
 }
 
+// The set of a pair's rules as the upper half of a word.
+fn upper_half(set: u16) -> u64
+    ensures { λ r. ⌜ r ≡ rulesMask (rulesIn set) ⌝ }
+    ensures { λ r. ⌜ r < 2 ^ 32 ⌝ }
+{
+    set as u64
+}
+
+fn lowest(set: u16) -> u8
+    ensures { λ r. ⌜ r ≡ lowestOf (rulesIn set) ⌝ }
+{
+    rules::lowest_rule(set)
+}
+
 fn axiom_word(place: Axiom) -> u64
     ensures { λ r. ⌜ r ≡ verdictWord (axiomOf place) ⌝ }
 {
     match place {
-        Axiom::PreservedOrder(a, b, rule) => word(Case::PRESERVED_ORDER, a.0, b.0, rule, 0),
+        Axiom::PreservedOrder(a, b, set) => word(
+            Case::PRESERVED_ORDER,
+            a.0,
+            b.0,
+            lowest(set),
+            upper_half(set),
+        ),
         Axiom::LoadValue(reader) => word(Case::LOAD_VALUE, reader.0, 0, 0, 0),
         Axiom::Atomicity(lr, writer) => word(Case::ATOMICITY, lr.0, writer.0, 0, 0),
         Axiom::ValueRead(reader) => word(Case::VALUE_READ, reader.0, 0, 0, 0),
@@ -97,6 +120,15 @@ fn verdict_word(verdict: Verdict) -> u64
         Verdict::Refused(refusal) => refusal_word(refusal),
         Verdict::Broken(place) => axiom_word(place),
         Verdict::Allowed => word(Case::GOOD, 0, 0, 0, 0),
+    }
+}
+
+fn pair_word(pair: PairRules) -> u64
+    ensures { λ r. ⌜ r ≡ ruledWord (ruledOf pair) ⌝ }
+{
+    match pair {
+        PairRules::Refused(refusal) => refusal_word(refusal),
+        PairRules::Held(set) => word(Case::GOOD, 0, 0, 0, upper_half(set)),
     }
 }
 
@@ -153,6 +185,14 @@ pub extern "C" fn ct_verdict(block: &[u8], returned: &[u8], order: &[u8]) -> u64
     ensures { λ r. ⌜ r ≡ judgedWord (verdictOf (now (block .entry)) (now (returned .entry)) (now (order .entry))) ⌝ }
 {
     verdict_word(bench::verdict(block, returned, order))
+}
+
+// Every rule by which preserved program order puts a before b.
+#[no_mangle]
+pub extern "C" fn ct_rules(block: &[u8], returned: &[u8], a: u64, b: u64) -> u64
+    ensures { λ r. ⌜ r ≡ ruledWord (rulesOf (now (block .entry)) (now (returned .entry)) a b) ⌝ }
+{
+    pair_word(bench::rules(block, returned, a, b))
 }
 
 // Writes the returned list that an order determines.

@@ -17,6 +17,8 @@ const INPUT: usize = 1024;
 // No returned list is longer.
 const LIST: usize = 32;
 
+const RULES: u8 = 13;
+
 fn usage() {
     console::print(
         b"\
@@ -94,11 +96,35 @@ fn describe(t: Table, k: EventNo) {
     }
 }
 
-fn preserved_order(t: Table, a: EventNo, b: EventNo, rule: u8) {
+// A rule by its number, and why it orders the two.
+fn rule(line: Line, first: bool, r: u8) -> Line {
+    let begun = if first {
+        line.item(b" by rule ", r)
+    } else {
+        line.item(b" and rule ", r)
+    };
+    words::rule(begun.text(b" ("), r).text(b")")
+}
+
+// Each rule of a set, bit r - 1 for rule r.
+fn rules(line: Line, set: u16) -> Line {
+    let mut named = line;
+    let mut first = true;
+    let mut r: u8 = 0;
+    while r < RULES {
+        r += 1;
+        if (set >> (r as u32 - 1)) % 2 == 1 {
+            named = rule(named, first, r);
+            first = false;
+        }
+    }
+    named
+}
+
+fn preserved_order(t: Table, a: EventNo, b: EventNo, set: u16) {
     let first = event(Line::output().text(b"preserved order: "), a).text(b" before ");
-    let pair = event(first, b).item(b" by rule ", rule).text(b" (");
-    words::rule(pair, rule)
-        .item(b"), but the order has ", b.0)
+    rules(event(first, b), set)
+        .item(b", but the order has ", b.0)
         .text(b" first")
         .end();
     describe(t, a);
@@ -156,7 +182,7 @@ fn final_value(t: Table, order: &[u8], x: LocationNo) {
 
 fn broken(axiom: Axiom, t: Table, block: &[u8], returned: &[u8], order: &[u8]) {
     match axiom {
-        Axiom::PreservedOrder(a, b, rule) => preserved_order(t, a, b, rule),
+        Axiom::PreservedOrder(a, b, set) => preserved_order(t, a, b, set),
         Axiom::LoadValue(r) => load_value(t, block, returned, order, r),
         Axiom::Atomicity(lr, w) => atomicity(t, returned, lr, w),
         Axiom::ValueRead(r) => value_read(t, returned, r),

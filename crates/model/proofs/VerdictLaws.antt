@@ -41,7 +41,7 @@ allowed-is (brokenValueRead r) h = absurd (false≢true h)
 allowed-is (brokenFinalValue x) h = absurd (false≢true h)
 
 -- five lines allow where none is broken
-lines : (a b c d e : Bool) (x y r k l w v z : ℕ)
+lines : (a b c d e : Bool) (x y : ℕ) (r : List ℕ) (k l w v z : ℕ)
     → isAllowed (broken a (brokenPpo x y r) (broken b (brokenLoadValue k) (broken c (brokenAtomicity l w)
     (broken d (brokenValueRead v) (broken e (brokenFinalValue z) allowed)))))
     ≡ (not a && not b && not c && not d && not e)

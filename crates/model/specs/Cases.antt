@@ -141,9 +141,9 @@ worked =
     ∷ allWitnesses (c4 1) ((0 ∷ 1 ∷ []) ∷ (1 ∷ 0 ∷ []) ∷ [])
     ∷ allWitnesses (c4 0) []
     ∷ searched (c4 0) [] ample (noneLeft 4)
-    -- "Only 01. Order 10, returned list 255, 0: preserved order, pair 0, 1, rule 2 (rule 3 holds too; the lowest is named)."
+    -- "Only 01. Order 10, returned list 255, 0: preserved order, pair 0, 1", where "the set is rules 2 and 3"
     ∷ allWitnesses c5 ((0 ∷ 1 ∷ []) ∷ [])
-    ∷ judged c5 (initially ∷ 0 ∷ []) (1 ∷ 0 ∷ []) (brokenPpo 0 1 2)
+    ∷ judged c5 (initially ∷ 0 ∷ []) (1 ∷ 0 ∷ []) (brokenPpo 0 1 (2 ∷ 3 ∷ []))
     ∷ ruled c5 (initially ∷ 0 ∷ []) 0 1 (2 ∷ 3 ∷ [])
     -- "None left, 15 visited."
     ∷ allWitnesses c6 []

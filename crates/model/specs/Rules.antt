@@ -126,7 +126,3 @@ numbered k (b ∷ bs) = kept b k (numbered (suc k) bs)
 -- the set of the rules by which preserved order puts a before b, ascending
 unfoldable pub ruleSet : Table → List ℕ → ℕ → ℕ → List ℕ
 ruleSet t rf a b = numbered 1 (rules t rf a b)
-
--- "the lowest rule": the lowest member of the set
-unfoldable pub lowestRule : Table → List ℕ → ℕ → ℕ → ℕ
-lowestRule t rf a b = getD (ruleSet t rf a b) 0 0

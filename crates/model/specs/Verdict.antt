@@ -5,12 +5,12 @@ use mathlib.Core.List.{List}
 use lib.Dec.{ltb}
 use Rattle.lists.specs.Below.{lowest, some}
 use Rattle.table.specs.declared.Table.{Table}
-use Rattle.model.specs.Rules.{lowestRule}
+use Rattle.model.specs.Rules.{ruleSet}
 use Rattle.model.specs.Axioms.{breaksPpo, breaksLoadValue, breaksAtomicity, atomicityWriter, breaksValueRead, breaksFinalValue}
 
 pub data Verdict : Type 0 where
   allowed : Verdict
-  brokenPpo : (a b rule : ℕ) → Verdict
+  brokenPpo : (a b : ℕ) (rules : List ℕ) → Verdict
   brokenLoadValue : (reader : ℕ) → Verdict
   brokenAtomicity : (lr writer : ℕ) → Verdict
   brokenValueRead : (reader : ℕ) → Verdict
@@ -25,9 +25,9 @@ broken false v rest = rest
 abbrev pub brokenAt : ℕ → (ℕ → Bool) → (ℕ → Verdict) → Verdict → Verdict
 brokenAt n f v rest = broken (some n f) (v (lowest n f)) rest
 
--- "the lowest a, and for that a the lowest b, with the lowest rule, using the returns given"
+-- "the lowest a, and for that a the lowest b, .. using the returns given"; "carries the set" of the rules
 abbrev pub ppoBreak : Table → List ℕ → List ℕ → ℕ → Verdict
-ppoBreak t rf gmo a = let b = lowest (t .count) (breaksPpo t rf gmo a) in brokenPpo a b (lowestRule t rf a b)
+ppoBreak t rf gmo a = let b = lowest (t .count) (breaksPpo t rf gmo a) in brokenPpo a b (ruleSet t rf a b)
 
 -- "preserved order ..; load value (lowest reader); atomicity (lowest LR, then the lowest foreign writer between; ..);
 -- value read (lowest reader); final value (lowest location)."

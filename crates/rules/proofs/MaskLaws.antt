@@ -14,8 +14,8 @@ use mir.Val.{boolByte}
 use borrow.Author.Tests.{ne-eqb}
 use Rattle.lists.specs.Lists.{any}
 use Rattle.table.specs.declared.Table.{Table}
-use Rattle.model.specs.Rules.{holds, numbered, rules, ruleSet, lowestRule}
-use Rattle.rules.specs.RuleMask.{setMask, lowestIn}
+use Rattle.model.specs.Rules.{holds, numbered, rules, ruleSet}
+use Rattle.rules.specs.RuleMask.{setMask, bitsOf, rulesIn, lowestIn}
 
 -- a set of n tests is a mask of n bits
 mask-lt : (bs : List Bool) → setMask bs < 2 ^ length bs
@@ -77,7 +77,7 @@ lowest-none (true ∷ bs) j e = absurd (true≢false e)
 lowest-none (false ∷ bs) j e = lowest-none bs (suc j) e
 
 -- the lowest of the set is the first of the numbers of the tests that hold
-pub lowest-first : (bs : List Bool) → length bs ≤ 16 → lowestIn (setMask bs) ≡ getD (numbered 1 bs) 0 0
+lowest-first : (bs : List Bool) → length bs ≤ 16 → lowestIn (setMask bs) ≡ getD (numbered 1 bs) 0 0
 lowest-first bs h = go (any holds bs) refl
   where
     empty : (s : Bool) → any holds bs ≡ s → eqb (setMask bs) 0 ≡ not s
@@ -87,7 +87,38 @@ lowest-first bs h = go (any holds bs) refl
     go true e = rw (empty true e) (lowest-some bs 16 1 h e)
     go false e = rw (empty false e) (sym (lowest-none bs 1 e))
 
--- the lowest rule by which preserved order puts a before b is the lowest of their set
-pub lowest-rule : (t : Table) (rf : List ℕ) (a b : ℕ) → lowestIn (setMask (rules t rf a b)) ≡ lowestRule t rf a b
-unfolding lowestRule ruleSet rules
-lowest-rule t rf a b = lowest-first (rules t rf a b) (omega arith)
+-- the bits of the set of some tests are the tests, then none
+bits-none : (w k : ℕ) → numbered k (bitsOf w 0) ≡ []
+bits-none zero k = refl
+bits-none (suc w) k = bits-none w (suc k)
+
+bits-tests : (bs : List Bool) (w k : ℕ) → length bs ≤ w → numbered k (bitsOf w (setMask bs)) ≡ numbered k bs
+bits-tests [] w k h = bits-none w k
+bits-tests (b ∷ bs) zero k h = absurd (omega arith)
+bits-tests (true ∷ bs) (suc w) k h =
+    let d : (1 + 2 * setMask bs) % 2 ≡ 1 = omega arith in
+    let half : (1 + 2 * setMask bs) / 2 ≡ setMask bs = omega arith in
+    rw (d, half, bits-tests bs w (suc k) (omega arith))
+bits-tests (false ∷ bs) (suc w) k h =
+    let d : (0 + 2 * setMask bs) % 2 ≡ 0 = omega arith in
+    let half : (0 + 2 * setMask bs) / 2 ≡ setMask bs = omega arith in
+    rw (d, half, bits-tests bs w (suc k) (omega arith))
+
+-- the set of the bits of a mask is the mask
+pub bits-mask : (w m : ℕ) → m < 2 ^ w → setMask (bitsOf w m) ≡ m
+bits-mask zero m h = omega arith
+bits-mask (suc w) m h = go (m % 2) refl (bits-mask w (m / 2) (omega arith))
+  where
+    go : (d : ℕ) → m % 2 ≡ d → setMask (bitsOf w (m / 2)) ≡ m / 2 → cond (eqb d 1) 1 0 + 2 * setMask (bitsOf w (m / 2)) ≡ m
+    go zero e q = omega (arith, q)
+    go (suc zero) e q = omega (arith, q)
+    go (suc (suc d)) e q = absurd (omega arith)
+
+-- the lowest of a set is the first of its rules
+pub lowest-in : (set : ℕ) → set < 2 ^ 16 → lowestIn set ≡ getD (rulesIn set) 0 0
+lowest-in set h = ap lowestIn (sym (bits-mask 16 set h)) ∙ lowest-first (bitsOf 16 set) (omega arith)
+
+-- the rules in the set of a pair are those by which preserved order puts a before b
+pub rules-in : (t : Table) (rf : List ℕ) (a b : ℕ) → rulesIn (setMask (rules t rf a b)) ≡ ruleSet t rf a b
+unfolding ruleSet rules
+rules-in t rf a b = bits-tests (rules t rf a b) 16 1 (omega arith)

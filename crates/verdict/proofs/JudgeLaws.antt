@@ -5,12 +5,12 @@ use mathlib.Core.Bool.{Bool}
 use mathlib.Core.List.{List}
 use Rattle.lists.specs.Below.{lowest, some}
 use Rattle.table.specs.declared.Table.{Table}
-use Rattle.model.specs.Rules.{rules, lowestRule}
+use Rattle.model.specs.Rules.{rules, ruleSet}
 use Rattle.model.specs.Axioms.{breaksPpo, breaksLoadValue, breaksAtomicity, atomicityWriter, breaksValueRead, breaksFinalValue}
 use Rattle.model.specs.Verdict.{Verdict, allowed, brokenPpo, brokenLoadValue, brokenAtomicity, brokenValueRead, brokenFinalValue}
 use Rattle.model.specs.Verdict.{brokenAt, ppoBreak, verdict}
-use Rattle.rules.specs.RuleMask.{setMask, lowestIn}
-use Rattle.rules.proofs.MaskLaws.{lowest-rule}
+use Rattle.rules.specs.RuleMask.{setMask, rulesIn}
+use Rattle.rules.proofs.MaskLaws.{rules-in}
 use Rattle.verdict.specs.Pairs.{LowestPair}
 use Rattle.atomicity.proofs.LowestLaws.{some-below, none-below}
 
@@ -44,11 +44,11 @@ module _ (t : Table) (rf gmo : List ℕ) where
   abbrev pub loadLine : Verdict
   loadLine = brokenAt (t .count) (breaksLoadValue t rf gmo) brokenLoadValue atomicityLine
 
-  pub at-pair : (a b s r : ℕ) → LowestPair (t .count) (breaksPpo t rf gmo) a b → a < t .count → s ≡ setMask (rules t rf a b)
-      → r ≡ lowestIn s → brokenPpo a b r ≡ verdict t rf gmo
+  pub at-pair : (a b s : ℕ) → LowestPair (t .count) (breaksPpo t rf gmo) a b → a < t .count → s ≡ setMask (rules t rf a b)
+      → brokenPpo a b (rulesIn s) ≡ verdict t rf gmo
   unfolding verdict
-  at-pair a b s r p h e q =
-      ap₂ (brokenPpo a) (sym (p .second h)) (q ∙ ap lowestIn e ∙ lowest-rule t rf a b ∙ ap (lowestRule t rf a) (sym (p .second h)))
+  at-pair a b s p h e =
+      ap₂ (brokenPpo a) (sym (p .second h)) (ap rulesIn e ∙ rules-in t rf a b ∙ ap (ruleSet t rf a) (sym (p .second h)))
       ∙ broken-here (t .count) a (λ x. some (t .count) (breaksPpo t rf gmo x)) (ppoBreak t rf gmo) loadLine (sym (p .first)) h
 
   pub past-pair : (a b : ℕ) (v : Verdict) → LowestPair (t .count) (breaksPpo t rf gmo) a b → t .count ≤ a → v ≡ loadLine

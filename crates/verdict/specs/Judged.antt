@@ -2,6 +2,7 @@
 use Rattle.refusals.specs.Lines as lines
 use Rattle.refusals.specs.Refusals.{refusalOf}
 use Rattle.model.specs.Verdict as model
+use Rattle.rules.specs.RuleMask.{rulesIn}
 use Rattle.verdict.specs.declared.Axiom.{Axiom}
 use Rattle.verdict.specs.declared.Axiom.the-variants.{PreservedOrder, LoadValue, Atomicity, ValueRead, FinalValue}
 use Rattle.verdict.specs.declared.Verdict.{Verdict}
@@ -14,7 +15,7 @@ pub data Judged : Type 0 where
 
 -- the axiom that is broken, with its place
 abbrev pub axiomOf : Axiom → model.Verdict
-axiomOf (PreservedOrder a b rule) = model.brokenPpo (a .0) (b .0) rule
+axiomOf (PreservedOrder a b set) = model.brokenPpo (a .0) (b .0) (rulesIn set)
 axiomOf (LoadValue reader) = model.brokenLoadValue (reader .0)
 axiomOf (Atomicity lr writer) = model.brokenAtomicity (lr .0) (writer .0)
 axiomOf (ValueRead reader) = model.brokenValueRead (reader .0)

@@ -13,9 +13,9 @@ ghost use Rattle.table.specs.Events.{capacity};
 ghost use Rattle.model.specs.Verdict.{verdict};
 ghost use Rattle.verdict.specs.Judged.{judged, judgedOf};
 
-// What is broken, with its place; the rule of a preserved-order pair is the lowest.
+// What is broken, with its place; a preserved-order pair with the set of its rules, bit r - 1 for rule r.
 pub enum Axiom {
-    PreservedOrder(EventNo, EventNo, u8),
+    PreservedOrder(EventNo, EventNo, u16),
     LoadValue(EventNo),
     Atomicity(EventNo, EventNo),
     ValueRead(EventNo),
@@ -37,8 +37,8 @@ pub fn judge(t: Table, rf: &[u8], gmo: &[u8]) -> Verdict
     if pair.a < t.count {
         let a = EventNo(pair.a);
         let b = EventNo(pair.b);
-        let rule = rules::lowest_rule(rules::rule_set(t, rf, a, b));
-        return Verdict::Broken(Axiom::PreservedOrder(a, b, rule));
+        let set = rules::rule_set(t, rf, a, b);
+        return Verdict::Broken(Axiom::PreservedOrder(a, b, set));
     }
     let r = stated_values::lowest_load_value(t, rf, gmo);
     if r < t.count {

@@ -42,7 +42,7 @@ fn line(k: u64, reply: Reply, answer: &[u8]) {
 }
 
 fn search(k: u64, block: &[u8], start: &[u8], answer: &mut [u8]) -> Reply {
-    let allowance = calls::allowance();
+    let allowance = calls::number();
     let reply = bench::search(block, start, answer, allowance);
     line(k, reply, answer);
     reply

@@ -6,17 +6,20 @@ use super::orders::*;
 use super::prng::Prng;
 use super::random::random_table;
 use crate::candidate::{encode_entry, INITIAL, NON_READER};
-use crate::candidates::{LEND, RETURNED, VERDICT};
+use crate::candidates::{LEND, RETURNED, RULES, VERDICT};
 use crate::encode::encode;
 use crate::layout::*;
 use crate::litmus::{self, *};
 use crate::rules::{determined_returns, RULE_COUNT};
 use crate::stream::{push_frame, push_list};
 use crate::table::*;
+use std::collections::BTreeSet;
 
 const SEED: u64 = 2;
 const RANDOM_TABLES: usize = 160;
 const ROUNDS: usize = 3;
+/// Pairs of a random table that are asked for with one returned list.
+const SOME_PAIRS: usize = 4;
 
 /// The stream, and the names of its calls.
 #[derive(Default)]
@@ -44,16 +47,26 @@ impl Calls {
         push_list(&mut self.stream, order);
         self.stream.push(buffer_length as u8);
     }
+
+    fn rules(&mut self, name: &str, returned: &[u8], a: u64, b: u64) {
+        self.names.push(name.to_string());
+        self.stream.push(RULES);
+        push_list(&mut self.stream, returned);
+        self.stream.extend(a.to_le_bytes());
+        self.stream.extend(b.to_le_bytes());
+    }
 }
 
 pub fn make_candidates() -> Calls {
     let mut calls = Calls::default();
     four_points(&mut calls);
+    rules_of_c5(&mut calls);
     load_values(&mut calls);
     fences(&mut calls);
     annotations(&mut calls);
     for (name, test) in litmus::all() {
         every_order(&mut calls, name, &test);
+        every_pair(&mut calls, name, &test);
     }
     let families = [
         location_cases(),
@@ -67,7 +80,13 @@ pub fn make_candidates() -> Calls {
     ];
     for (name, test) in families.concat() {
         every_order(&mut calls, name, &test);
+        every_pair(&mut calls, name, &test);
     }
+    for (name, test) in rule_set_cases() {
+        calls.lend(&encode(&test));
+        every_pair(&mut calls, name, &test);
+    }
+    numbers_of_no_event(&mut calls);
     reading_refusals(&mut calls);
     order_refusals(&mut calls);
     returned_refusals(&mut calls);
@@ -102,6 +121,21 @@ fn every_order(calls: &mut Calls, name: &str, table: &Table) {
     }
 }
 
+/// The rules of every two events, fences too, with each returned list that an order of the
+/// table lent determines.
+fn every_pair(calls: &mut Calls, name: &str, table: &Table) {
+    let orders = permutations(&table.memory_events());
+    let lists: BTreeSet<Vec<u8>> = orders.iter().map(|o| returned_list(table, o)).collect();
+    let events = 0..table.events.len() as u64;
+    for returned in lists {
+        for a in events.clone() {
+            for b in events.clone() {
+                calls.rules(name, &returned, a, b);
+            }
+        }
+    }
+}
+
 /// One candidate of a table of its own.
 fn single(calls: &mut Calls, name: &str, table: &Table, returned: &[u8], order: &[u8]) {
     calls.lend(&encode(table));
@@ -124,6 +158,17 @@ fn four_points(calls: &mut Calls) {
     single(calls, "own-store-atomicity", &c8(), &pair, &[0, 1, 2]);
 }
 
+/// Case C5, "where the set is rules 2 and 3"; then with other returned lists.
+fn rules_of_c5(calls: &mut Calls) {
+    calls.lend(&encode(&c5()));
+    calls.rules("c5-rules-2-and-3", &[INITIAL, 0], 0, 1);
+    calls.verdict("c5-rules-2-and-3", &[INITIAL, 0], &[1, 0]);
+    calls.rules("c5-rule-3", &[0, 0], 0, 1);
+    calls.rules("c5-rule-2", &[0, INITIAL], 0, 1);
+    calls.rules("c5-no-rule", &[INITIAL, INITIAL], 0, 1);
+    calls.rules("c5-other-way-round", &[INITIAL, 0], 1, 0);
+}
+
 /// Returned lists that line 14 lets pass, and the order doesn't determine.
 fn load_values(calls: &mut Calls) {
     single(calls, "load-value-amo-itself", &c5(), &[0, 0], &[0, 1]);
@@ -140,7 +185,7 @@ fn load_values(calls: &mut Calls) {
             &order,
         );
     }
-    // Rule 3 as the lowest rule with an AMO: a store between rules out rule 2.
+    // Rule 3 alone with an AMO: a store between rules out rule 2.
     let amo_first = table(vec![amo(0, X, 0, 1), store(0, X, 2), load(0, X, 1)]);
     single(calls, "rule-3-amo", &amo_first, &[INITIAL, NON_READER, 0], &[2, 0, 1]);
     single(calls, "rule-3-amo-kept", &amo_first, &[INITIAL, NON_READER, 0], &[0, 1, 2]);
@@ -188,6 +233,24 @@ fn annotations(calls: &mut Calls) {
     }
 }
 
+/// Numbers that name no event of C2, some of which would if they were cut to fewer bits; and
+/// pairs of which one is a fence, on another hart, or earlier.
+fn numbers_of_no_event(calls: &mut Calls) {
+    let returned = returned_list(&c2(), &[0, 2, 3, 5]);
+    let powers = [4, 5, 6, 7, 8, 15, 16, 31, 32, 63].map(|bit| 1u64 << bit);
+    let cut = [8, 16, 32, 63].map(|bit| (1u64 << bit) + 2);
+    let past = [6, 7, 15, 254, 255, 65_535, u64::from(u32::MAX), u64::MAX - 1, u64::MAX];
+    calls.lend(&encode(&c2()));
+    for number in [&powers[..], &cut, &past].concat() {
+        for event in [0, 1, 2, 5] {
+            calls.rules("rules-of-no-event", &returned, event, number);
+            calls.rules("rules-of-no-event", &returned, number, event);
+        }
+        calls.rules("rules-of-no-event", &returned, number, number);
+        calls.rules("rules-of-no-event", &returned, number, number.wrapping_add(1));
+    }
+}
+
 /// Lines 1 to 11, each with lists that are right and with an order and a buffer too short.
 fn reading_refusals(calls: &mut Calls) {
     let mut wrong_check = base_block();
@@ -211,10 +274,13 @@ fn reading_refusals(calls: &mut Calls) {
         calls.returned("refused-reading", &bytes(&order), returned.len());
         calls.verdict("refused-reading-and-length", &returned, &[]);
         calls.returned("refused-reading-and-buffer", &bytes(&order), 0);
+        calls.rules("refused-reading", &returned, 0, 1);
+        calls.rules("refused-reading-and-length", &[], 0, u64::MAX);
     }
     calls.lend(&encode(&table(vec![fence(0, FULL), fence_tso(0)])));
     calls.verdict("refused-no-memory-event", &[NON_READER, NON_READER], &[]);
     calls.returned("refused-no-memory-event", &[], 2);
+    calls.rules("refused-no-memory-event", &[NON_READER, NON_READER], 0, 1);
 }
 
 /// Lines 12 and 13. The memory events of C2 are 0, 2, 3 and 5; 1 and 4 are fences.
@@ -233,6 +299,8 @@ fn order_refusals(calls: &mut Calls) {
     {
         calls.verdict("refused-returned-length", list, &[0, 2, 3, 5]);
         calls.verdict("refused-returned-length-and-order", list, &[0, 0, 3, 5]);
+        calls.rules("refused-returned-length", list, 0, 2);
+        calls.rules("refused-returned-length-and-no-event", list, 6, u64::MAX);
     }
     let orders = [
         [0, 0, 3, 5],
@@ -276,6 +344,8 @@ fn returned_refusals(calls: &mut Calls) {
             let mut changed = returned.clone();
             changed[event] = entry;
             calls.verdict("returned-entry", &changed, &bytes(&order));
+            calls.rules("returned-entry", &changed, 5, 6);
+            calls.rules("returned-entry-and-no-event", &changed, past.into(), u64::MAX);
         }
     }
 }
@@ -317,6 +387,7 @@ fn random_calls(calls: &mut Calls, prng: &mut Prng) {
         calls.verdict("random-return", &changed, &bytes(&order));
         let changed = other_return(prng, &table, &changed);
         calls.verdict("random-returns", &changed, &bytes(&order));
+        random_pairs(calls, prng, &table, &changed);
         let swapped = with_swap(prng, lawful.as_ref().unwrap_or(&order));
         both_entries(calls, "random-swap", &table, &swapped);
     }
@@ -324,6 +395,31 @@ fn random_calls(calls: &mut Calls, prng: &mut Prng) {
     let shuffled = permutation(prng, &table);
     both_entries(calls, "random-permutation", &table, &shuffled);
     random_damage(calls, prng, &table);
+}
+
+/// The rules of some pairs, mostly of one hart; now and then a number is any at all.
+fn random_pairs(calls: &mut Calls, prng: &mut Prng, table: &Table, returned: &[u8]) {
+    for _ in 0..SOME_PAIRS {
+        let (a, b) = any_pair(prng, table);
+        calls.rules("random-pair", returned, a, b);
+    }
+}
+
+/// Two numbers: mostly events in program order, else any events, else any numbers.
+pub fn any_pair(prng: &mut Prng, table: &Table) -> (u64, u64) {
+    let events = table.events.len();
+    let pairs = (0..events).flat_map(|a| (a + 1..events).map(move |b| (a, b)));
+    let ordered: Vec<_> = pairs.filter(|&(a, b)| table.in_program_order(a, b)).collect();
+    match prng.below(8) {
+        0 => (prng.bits(), prng.bits()),
+        1 => (prng.below(2 * MAX_EVENTS) as u64, prng.below(2 * MAX_EVENTS) as u64),
+        2 | 3 => (prng.below(events) as u64, prng.below(events) as u64),
+        _ if ordered.is_empty() => (0, 1),
+        _ => {
+            let (a, b) = *prng.pick(&ordered);
+            (a as u64, b as u64)
+        }
+    }
 }
 
 /// For each steady rule an order with one pair the wrong way round, where there is one.
@@ -379,6 +475,8 @@ fn random_damage(calls: &mut Calls, prng: &mut Prng, table: &Table) {
     let at = prng.below(list.len());
     list[at] = prng.bits() as u8;
     calls.verdict("random-damage", &returned, &order);
+    let (a, b) = any_pair(prng, table);
+    calls.rules("random-damage", &returned, a, b);
     calls.returned("random-damage", &order, prng.below(2 * MAX_EVENTS));
 }
 
@@ -387,10 +485,28 @@ mod tests {
     use super::*;
     use crate::candidates::print_candidates;
 
-    #[test]
-    fn each_call_has_a_name() {
+    /// The calls' names with their answers.
+    fn answers() -> Vec<(String, String)> {
         let calls = make_candidates();
         let lines = print_candidates(&calls.stream).expect("the stream is whole");
         assert_eq!(lines.lines().count(), calls.names.len());
+        let answer = |line: &str| line.split_once(": ").expect("a number before").1.to_string();
+        calls.names.into_iter().zip(lines.lines().map(answer)).collect()
+    }
+
+    #[test]
+    fn c5_has_its_set() {
+        let named: Vec<_> =
+            answers().into_iter().filter(|(name, _)| name == "c5-rules-2-and-3").collect();
+        let said: Vec<&str> = named.iter().map(|(_, answer)| answer.as_str()).collect();
+        assert_eq!(said, ["rules 2 3", "preserved order 0 1 rules 2 3"]);
+    }
+
+    #[test]
+    fn each_rule_is_met_among_the_sets_of_pairs() {
+        let answers = answers();
+        let sets = answers.iter().filter_map(|(_, answer)| answer.strip_prefix("rules"));
+        let met: BTreeSet<&str> = sets.flat_map(str::split_whitespace).collect();
+        assert_eq!(met.len(), RULE_COUNT);
     }
 }

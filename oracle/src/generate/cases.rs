@@ -170,6 +170,29 @@ pub fn later_write_cases() -> Vec<Case> {
     ]
 }
 
+/// Two events that as many rules as can be put in order, and those less one.
+pub fn rule_set_cases() -> Vec<Case> {
+    let annotated = |event: Event| event.flags(ACQUIRE_RCSC | RELEASE_RCSC);
+    let dependent = |event: Event| event.address_from(0).data_from(0).control_from(0);
+    let between = || vec![fence(0, FULL), load(0, Y, 0).address_from(0).control_from(0)];
+    let amos = |m: Vec<Event>| {
+        let last = annotated(dependent(amo(0, X, 1, 2)));
+        table([vec![annotated(amo(0, X, 0, 1))], m, vec![last]].concat())
+    };
+    let forwarded = vec![store(0, X, 1).address_from(0).data_from(0).control_from(0)];
+    let paired = |m: Vec<Event>| {
+        let last = annotated(dependent(sc(0, X, 1)));
+        table([vec![annotated(lr(0, X, 0))], m, vec![last]].concat())
+    };
+    vec![
+        ("rule-set-all-but-8-and-12", amos(between())),
+        ("rule-set-not-4-and-13", amos(vec![])),
+        ("rule-set-all-but-2-3-and-8", amos([between(), forwarded].concat())),
+        ("rule-set-all-but-2-3-and-12", paired(between())),
+        ("rule-set-8-not-4-and-13", paired(vec![])),
+    ]
+}
+
 /// Paired LR and SC with writers of other harts and of their own.
 pub fn atomicity_cases() -> Vec<Case> {
     let pair = vec![lr(0, X, 0), sc(0, X, 1)];

@@ -1,7 +1,8 @@
 use Rattle.capi.specs.Words.{verdictWord}
+use Rattle.capi.proofs.SetLaws.{pair-word}
 use Rattle.verdict.specs.Judged.{axiomOf}
 use Rattle.verdict.specs.declared.Axiom.{Axiom}
-use mathlib.Core.Path.{ap}
+use mathlib.Core.Path.{sym, ap, _∙_}
 use borrow.Author.Needs.{needs}
 use Rattle.capi.proofs.axiom_word.Statement.{statement}
 use Rattle.capi.proofs.axiom_word.Tie as tie
@@ -9,8 +10,14 @@ use Rattle.capi.proofs.axiom_word.Tie as tie
 enum-known-place : tie.Need-enum-known-place
 enum-known-place c = search needs
 
+lowest-requires : tie.Need-lowest-requires
+lowest-requires c κs = search needs
+
+upper-half-requires : tie.Need-upper-half-requires
+upper-half-requires c κs = search needs
+
 word-requires : tie.Need-word-requires
-word-requires c κs = search needs
+word-requires c κs = c .upper-half .ensures .1
 
 enum-known-place-2 : tie.Need-enum-known-place-2
 enum-known-place-2 c = search needs
@@ -37,7 +44,9 @@ word-requires-5 : tie.Need-word-requires-5
 word-requires-5 c κs = search needs
 
 returns : tie.Need-returns
-returns c = cc (ap (λ (a : Axiom). verdictWord (axiomOf a)) (c .before .before .place .given .1))
+returns c =
+    c .word .ensures ∙ pair-word _ _ _ _ _ (c .before .before .lowest .ensures) (c .before .upper-half .ensures .0)
+    ∙ sym (ap (λ (a : Axiom). verdictWord (axiomOf a)) (c .before .before .before .before .place .given .1))
 
 returns-2 : tie.Need-returns-2
 returns-2 c = cc (ap (λ (a : Axiom). verdictWord (axiomOf a)) (c .before .before .place2 .given .1))
@@ -56,6 +65,8 @@ axiom-word-spec =
     tie.close
     (tie.spec
     enum-known-place
+    lowest-requires
+    upper-half-requires
     word-requires
     enum-known-place-2
     word-requires-2

@@ -46,15 +46,11 @@ lowest-pair-requires c κs = search needs
 rule-set-requires : tie.Need-rule-set-requires
 rule-set-requires c κs = (search needs, c .before .before .before .lowest-pair .ensures .within (c .if1 .taken), search needs, search needs)
 
-lowest-rule-requires : tie.Need-lowest-rule-requires
-lowest-rule-requires c κs = search needs
-
 returns : tie.Need-returns
 returns c =
-    let cr = c .before in
-    let c1 = cr .before in
+    let c1 = c .before in
     let found = c1 .before .before .before .lowest-pair .ensures in
-    ap judged (at-pair _ _ _ _ _ _ _ found (c1 .if1 .taken) (cr .rule-set .ensures) (c .lowest-rule .ensures))
+    ap judged (at-pair _ _ _ _ _ _ found (c1 .if1 .taken) (c .rule-set .ensures))
 
 lowest-load-value-requires : tie.Need-lowest-load-value-requires
 lowest-load-value-requires c κs = search needs
@@ -103,7 +99,6 @@ judge-spec =
     (tie.spec
     lowest-pair-requires
     rule-set-requires
-    lowest-rule-requires
     returns
     lowest-load-value-requires
     returns-2

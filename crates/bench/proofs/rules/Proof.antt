@@ -1,0 +1,48 @@
+use Rattle.bench.proofs.EntryLaws.{table-read, small-read}
+use Rattle.bench.proofs.PairLaws.{rules-declined, rules-ruled}
+use Rattle.search.specs.Running.{Small}
+use Prim.Native.Nat.{ℕ}
+use mathlib.Core.Path.{_≡_}
+use native.Mathlib.Omega.{arith}
+use Rattle.refusals.specs.Refusals.{refusalOf}
+use mathlib.Core.Path.{ap, sym, subst, _∙_}
+use borrow.Author.Needs.{needs}
+use Rattle.bench.proofs.rules.Statement.{statement}
+use Rattle.bench.proofs.rules.Tie as tie
+
+read-requires : tie.Need-read-requires
+read-requires c κs = search needs
+
+enum-told : tie.Need-enum-told
+enum-told c = search needs
+
+pair-requires : tie.Need-pair-requires
+pair-requires c κs = subst Small (sym (c .before .before .before .read .ensures .1 ∙ table-read _ (sym (c .before .before .before .read .ensures .0) ∙ ap refusalOf (c .enum-told .given .1)))) (small-read _ (sym (c .before .before .before .read .ensures .0) ∙ ap refusalOf (c .enum-told .given .1)))
+
+enum-known-refusal : tie.Need-enum-known-refusal
+enum-known-refusal c = search needs
+
+enum-known-refusal-2 : tie.Need-enum-known-refusal-2
+enum-known-refusal-2 c = search needs
+
+returns : tie.Need-returns
+returns c = rules-ruled _ _ _ _ _ _ (sym (c .before .before .before .before .read .ensures .0) ∙ ap refusalOf (c .before .enum-told .given .1)) (c .before .before .before .before .read .ensures .1 ∙ table-read _ (sym (c .before .before .before .before .read .ensures .0) ∙ ap refusalOf (c .before .enum-told .given .1))) (c .pair .ensures)
+
+returns-2 : tie.Need-returns-2
+returns-2 c = rules-declined _ _ _ _ _ (sym (ap refusalOf (c .before .refusal .given .1)) ∙ c .before .before .before .before .read .ensures .0) (λ h. let z : _≡_ {A = ℕ} 0 1 = cc in omega arith)
+
+returns-3 : tie.Need-returns-3
+returns-3 c = rules-declined _ _ _ _ _ (sym (ap refusalOf (c .before .refusal2 .given .1)) ∙ c .before .before .before .before .read .ensures .0) (λ h. let z : _≡_ {A = ℕ} 0 1 = cc in omega arith)
+
+pub rules-spec : {M : Type 1} → statement M
+rules-spec =
+    tie.close
+    (tie.spec
+    read-requires
+    enum-told
+    pair-requires
+    enum-known-refusal
+    enum-known-refusal-2
+    returns
+    returns-2
+    returns-3)

@@ -1,0 +1,17 @@
+use Rattle.capi.specs.Words.{lowestOf}
+use Rattle.rules.proofs.MaskLaws.{lowest-in}
+use native.Mathlib.Omega.{arith}
+use mathlib.Core.Path.{_∙_}
+use borrow.Author.Needs.{needs}
+use Rattle.capi.proofs.lowest.Statement.{statement}
+use Rattle.capi.proofs.lowest.Tie as tie
+
+lowest-rule-requires : tie.Need-lowest-rule-requires
+lowest-rule-requires c κs = search needs
+
+returns : tie.Need-returns
+unfolding lowestOf
+returns c = c .lowest-rule .ensures ∙ lowest-in (c .before .args .set) (omega arith)
+
+pub lowest-spec : {M : Type 1} → statement M
+lowest-spec = tie.close (tie.spec lowest-rule-requires returns)
