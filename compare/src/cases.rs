@@ -120,13 +120,16 @@ pub fn any_shape(prng: &mut Prng) -> Table {
     }
 }
 
-/// Half of the readers have an acquire, and half of the others that write a release.
+/// Half of the loads and LRs have an acquire, half of the stores and SCs a release, and most AMOs the one or the other.
 fn annotated_table(prng: &mut Prng) -> Table {
     let mut table = any_table(prng);
     for event in table.events.iter_mut().filter(|event| event.is_memory()) {
-        let choices =
-            if event.reads() { [0, 0, ACQUIRE_RCPC, ACQUIRE_RCSC] } else { [0, 0, RELEASE_RCPC, RELEASE_RCSC] };
-        event.flags = *prng.pick(&choices);
+        let choices: &[u8] = match event.kind {
+            Kind::Amo => &[0, ACQUIRE_RCPC, ACQUIRE_RCSC, RELEASE_RCPC, RELEASE_RCSC],
+            Kind::Load | Kind::Lr => &[0, 0, ACQUIRE_RCPC, ACQUIRE_RCSC],
+            _ => &[0, 0, RELEASE_RCPC, RELEASE_RCSC],
+        };
+        event.flags = *prng.pick(choices);
     }
     table
 }
@@ -331,4 +334,31 @@ fn suite(prng: &mut Prng, comparison: &mut Comparison) -> Result<(), Box<Differe
         calls.call(Entry::Blocks)?;
     }
     Ok(())
+}
+
+#[cfg(test)]
+mod tests {
+    use super::*;
+
+    /// Tables enough to meet what is asked for.
+    const TABLES: usize = 1000;
+
+    #[test]
+    fn amos_have_each_annotation_alone() {
+        let mut prng = Prng::new(1);
+        let tables: Vec<Table> = (0..TABLES).map(|_| any_shape(&mut prng)).collect();
+        for flags in [ACQUIRE_RCPC, ACQUIRE_RCSC, RELEASE_RCPC, RELEASE_RCSC] {
+            let is_met = |event: &Event| event.kind == Kind::Amo && event.flags == flags;
+            assert!(tables.iter().any(|table| table.events.iter().any(is_met)), "{flags}");
+        }
+    }
+
+    #[test]
+    fn tables_are_good() {
+        let mut prng = Prng::new(2);
+        for _ in 0..TABLES {
+            let table = any_shape(&mut prng);
+            assert_eq!(read(&encode(&table)), Ok(table));
+        }
+    }
 }

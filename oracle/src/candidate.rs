@@ -101,6 +101,7 @@ mod tests {
     use super::*;
     use crate::encode::encode;
     use crate::litmus::*;
+    use crate::table::{RELEASE_RCPC, RELEASE_RCSC};
 
     fn judge(test: &Table, returned: &[u8], order: &[u8]) -> Option<Axiom> {
         verdict(&encode(test), returned, order).expect("no line refuses")
@@ -138,6 +139,18 @@ mod tests {
         assert_eq!(judge(&c9_control(), &returned, &[4, 0, 2, 3]), None);
         let broken = Axiom::PreservedOrder { a: 3, b: 4, rules: vec![9] };
         assert_eq!(judge(&c9_address(), &returned, &[4, 0, 2, 3]), Some(broken));
+    }
+
+    #[test]
+    fn the_release_of_an_amo_orders_by_rule_6_and_its_rcsc_by_rule_7() {
+        let order = [1, 2, 3, 0];
+        let passed = [NON_READER, INITIAL, 1, INITIAL];
+        let broken = Axiom::PreservedOrder { a: 0, b: 1, rules: vec![6] };
+        assert_eq!(judge(&amo_passes(RELEASE_RCPC), &passed, &order), Some(broken));
+        assert_eq!(judge(&amo_passes(0), &passed, &order), None);
+        let broken = Axiom::PreservedOrder { a: 0, b: 1, rules: vec![7] };
+        assert_eq!(judge(&amo_stores(RELEASE_RCSC), &[INITIAL; 4], &order), Some(broken));
+        assert_eq!(judge(&amo_stores(0), &[INITIAL; 4], &order), None);
     }
 
     #[test]

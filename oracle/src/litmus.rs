@@ -1,7 +1,9 @@
 //! Tables built event by event, and the paper's litmus tests C1 to C10.
 
 use crate::layout::MAX_LOCATIONS;
-use crate::table::{Event, Kind, Table, PR, PW, SR, SW};
+use crate::table::{
+    Event, Kind, Table, ACQUIRE_RCPC, ACQUIRE_RCSC, PR, PW, RELEASE_RCPC, RELEASE_RCSC, SR, SW,
+};
 
 /// Locations of the litmus tests.
 pub const X: usize = 0;
@@ -132,6 +134,36 @@ pub fn c9_address() -> Table {
 
 pub fn c10() -> Table {
     table(vec![load(0, X, 0)])
+}
+
+/// Message passing by an AMO with the flags given, to a load with acquire-RCpc.
+pub fn amo_passes(flags: u8) -> Table {
+    table(vec![
+        store(0, X, 1),
+        amo(0, Y, 0, 1).flags(flags),
+        load(1, Y, 1).flags(ACQUIRE_RCPC),
+        load(1, X, 0),
+    ])
+}
+
+/// Store buffering by AMOs with the flags given, before loads with acquire-RCsc.
+pub fn amo_stores(flags: u8) -> Table {
+    table(vec![
+        amo(0, X, 0, 1).flags(flags),
+        load(0, Y, 0).flags(ACQUIRE_RCSC),
+        amo(1, Y, 0, 1).flags(flags),
+        load(1, X, 0).flags(ACQUIRE_RCSC),
+    ])
+}
+
+/// AMOs with one release alone, and the same tests without it.
+pub fn releasing_amos() -> Vec<(&'static str, Table)> {
+    vec![
+        ("amo-passes-release-rcpc", amo_passes(RELEASE_RCPC)),
+        ("amo-passes", amo_passes(0)),
+        ("amo-stores-release-rcsc", amo_stores(RELEASE_RCSC)),
+        ("amo-stores", amo_stores(0)),
+    ]
 }
 
 /// Every litmus test of the paper, in its order.

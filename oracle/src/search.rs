@@ -143,6 +143,7 @@ mod tests {
     use crate::encode::encode;
     use crate::layout::MAX_EVENTS;
     use crate::litmus::*;
+    use crate::table::{RELEASE_RCPC, RELEASE_RCSC};
 
     fn run(test: &Table, start: &[u8], allowance: u64) -> Answer {
         let mut buffer = [0; MAX_EVENTS];
@@ -228,6 +229,21 @@ mod tests {
     fn c10_one_load() {
         assert_eq!(run(&c10(), &[], MAX_ALLOWANCE), found(1, &[0]));
         assert_eq!(witnesses(&c10()), [[0]]);
+    }
+
+    #[test]
+    fn an_amo_with_release_rcpc_alone() {
+        assert_eq!(run(&amo_passes(RELEASE_RCPC), &[], MAX_ALLOWANCE), none_left(18));
+        assert_eq!(run(&amo_passes(0), &[], MAX_ALLOWANCE), found(18, &[1, 2, 3, 0]));
+        assert_eq!(run(&amo_passes(0), &[1, 2, 3, 0], MAX_ALLOWANCE), none_left(16));
+    }
+
+    #[test]
+    fn amos_with_release_rcsc_alone() {
+        assert_eq!(run(&amo_stores(RELEASE_RCSC), &[], MAX_ALLOWANCE), none_left(18));
+        assert_eq!(run(&amo_stores(0), &[], MAX_ALLOWANCE), found(27, &[1, 2, 3, 0]));
+        assert_eq!(witnesses(&amo_stores(0)).len(), 6);
+        assert_eq!(run(&amo_stores(0), &[3, 1, 2, 0], MAX_ALLOWANCE), none_left(5));
     }
 
     #[test]

@@ -284,15 +284,16 @@ pub fn fields_broken(table: &Table, event: &Event) -> bool {
         || event.kind == Kind::FenceTso && event.flags != 0
 }
 
-/// 8: "both acquires or both releases at once; a reader with release and no acquire; a plain
-/// store or SC with acquire and no release"
+/// 8: "both acquires or both releases at once"; a load or LR "with release and no acquire"; "a
+/// plain store or SC with acquire and no release". "An AMO may carry either annotation alone."
 pub fn annotations_broken(table: &Table, record: usize) -> bool {
     let event = &table.events[record];
     let both_of = |flags: u8| event.is_memory() && event.flags & flags == flags;
+    let only_reads = matches!(event.kind, Kind::Load | Kind::Lr);
     let only_writes = matches!(event.kind, Kind::Store | Kind::Sc);
     both_of(ACQUIRES)
         || both_of(RELEASES)
-        || event.reads() && event.has_release() && !event.has_acquire()
+        || only_reads && event.has_release() && !event.has_acquire()
         || only_writes && event.has_acquire() && !event.has_release()
 }
 
@@ -423,11 +424,29 @@ mod tests {
     }
 
     #[test]
-    fn an_amo_may_have_acquire_alone_but_not_release_alone() {
-        let with = |flags: u8| read_events(vec![amo(0, X, 0, 1).flags(flags)]);
-        assert!(with(ACQUIRE_RCPC).is_ok() && with(ACQUIRE_RCSC).is_ok());
-        assert_eq!(with(RELEASE_RCPC), refused_at(Line::Annotations, 0));
-        assert_eq!(with(RELEASE_RCSC), refused_at(Line::Annotations, 0));
+    fn an_amo_may_have_either_annotation_alone_and_no_other_event_may() {
+        let paired = |flags: u8| read_events(vec![lr(0, X, 0), sc(0, X, 1).flags(flags)]);
+        for acquire in [ACQUIRE_RCPC, ACQUIRE_RCSC] {
+            assert!(read_events(vec![amo(0, X, 0, 1).flags(acquire)]).is_ok());
+            let refused = refused_at(Line::Annotations, 0);
+            assert_eq!(read_events(vec![store(0, X, 1).flags(acquire)]), refused);
+            assert_eq!(paired(acquire), refused_at(Line::Annotations, 1));
+        }
+        for release in [RELEASE_RCPC, RELEASE_RCSC] {
+            assert!(read_events(vec![amo(0, X, 0, 1).flags(release)]).is_ok());
+            for reader in [load(0, X, 0), lr(0, X, 0)] {
+                let refused = refused_at(Line::Annotations, 0);
+                assert_eq!(read_events(vec![reader.flags(release)]), refused);
+            }
+        }
+    }
+
+    #[test]
+    fn an_amo_has_neither_both_acquires_nor_both_releases() {
+        for both in [ACQUIRES, RELEASES, ACQUIRES | RELEASE_RCPC, RELEASES | ACQUIRE_RCSC] {
+            let read = read_events(vec![amo(0, X, 0, 1).flags(both)]);
+            assert_eq!(read, refused_at(Line::Annotations, 0));
+        }
     }
 
     #[test]

@@ -123,7 +123,7 @@ fn annotations_broken(e: &Event) -> bool {
     e.is_memory()
         && (acquire == ACQUIRE
             || release == RELEASE
-            || e.reads() && release != 0 && acquire == 0
+            || !e.writes() && release != 0 && acquire == 0
             || !e.reads() && acquire != 0 && release == 0)
 }
 

@@ -4,12 +4,12 @@ use edition::EditionOne;
 use edition::EventNo;
 use edition::LocationNo;
 use libc::STDIN_FILENO;
+use reads_from::INITIALLY;
+use reads_from::NOTHING;
 use table::Event;
 use table::Table;
 use verdict::Axiom;
 use verdict::Verdict;
-use reads_from::INITIALLY;
-use reads_from::NOTHING;
 
 // Longer than a candidate, so that one that is too long is refused.
 const INPUT: usize = 1024;

@@ -9,7 +9,7 @@ use Rattle.table.specs.declared.Table.{Table}
 use Rattle.table.specs.Events.{load, store, amo, lr, sc, fence, noEvent, capacity}
 use Rattle.prefixes.specs.Answer.{Answer, found, noneLeft, spent}
 use Rattle.model.specs.Rules.{initially, nothing, ruleSet}
-use Rattle.model.specs.Verdict.{Verdict, brokenPpo, brokenAtomicity, verdict}
+use Rattle.model.specs.Verdict.{Verdict, allowed, brokenPpo, brokenAtomicity, verdict}
 use Rattle.model.specs.Prefixes.{search, witnesses}
 
 abbrev x : ℕ
@@ -33,6 +33,11 @@ stores h l w = access store h l 0 w
 abbrev dependentLoad : (hart location read addr ctrl : ℕ) → Event
 dependentLoad h l r a c =
     record { kind = load; hart = h; location = record { 0 = l }; flags = 0; addr = a; «data» = 0; ctrl = c; read = r; written = 0 }
+
+-- an event of a kind with an annotation
+abbrev annotated : (kind hart location flags read written : ℕ) → Event
+annotated k h l f r w =
+    record { kind = k; hart = h; location = record { 0 = l }; flags = f; addr = 0; «data» = 0; ctrl = 0; read = r; written = w }
 
 -- a fence of all four bits
 abbrev fullFence : ℕ → Event
@@ -102,6 +107,34 @@ c9address = c9 event3 0
 abbrev pub c10 : Table
 c10 = plainTest 1 1 (loads 0 x 0 ∷ [])
 
+-- the flags of one annotation alone, or of none
+abbrev pub unannotated : ℕ
+unannotated = 0
+
+abbrev acquireRCpc : ℕ
+acquireRCpc = 1
+
+abbrev acquireRCsc : ℕ
+acquireRCsc = 2
+
+abbrev pub releaseRCpc : ℕ
+releaseRCpc = 4
+
+abbrev pub releaseRCsc : ℕ
+releaseRCsc = 8
+
+-- an AMO with release-RCpc alone: hart 0 stores x=1 (0), AMO y reading 0 writing 1 (1) with the flags given; hart 1 loads y
+-- reading 1 (2) with acquire-RCpc, x reading 0 (3)
+abbrev pub amoPasses : (flags : ℕ) → Table
+amoPasses f = plainTest 2 2 (stores 0 x 1 ∷ annotated amo 0 y f 0 1 ∷ annotated load 1 y acquireRCpc 1 0 ∷ loads 1 x 0 ∷ [])
+
+-- an AMO with release-RCsc alone: hart 0 AMO x reading 0 writing 1 (0) with the flags given, loads y reading 0 (1) with
+-- acquire-RCsc; hart 1 AMO y (2) and loads x (3) likewise
+abbrev pub amoStores : (flags : ℕ) → Table
+amoStores f =
+    plainTest 2 2
+    (annotated amo 0 x f 0 1 ∷ annotated load 0 y acquireRCsc 0 0 ∷ annotated amo 1 y f 0 1 ∷ annotated load 1 x acquireRCsc 0 0 ∷ [])
+
 -- What is stated of a case: all its witnesses; a search's answer from a start with an allowance; the verdict for a
 -- candidate (returned list, order); the set of rules of a pair with a returned list.
 pub data Claim : Type 0 where
@@ -168,4 +201,19 @@ worked =
     ∷ searched c1 [] 26 (spent (1 ∷ 2 ∷ 3 ∷ []) 26)
     ∷ searched c1 [] 0 (spent [] 0)
     ∷ searched c1 (3 ∷ 2 ∷ 1 ∷ 0 ∷ []) 0 (noneLeft 0)
+    -- With release-RCpc alone rule 6 orders 0 before 1, and nothing is left; without it 1230 is the only witness.
+    ∷ judged (amoPasses releaseRCpc) (nothing ∷ initially ∷ 1 ∷ initially ∷ []) (1 ∷ 2 ∷ 3 ∷ 0 ∷ []) (brokenPpo 0 1 (6 ∷ []))
+    ∷ judged (amoPasses unannotated) (nothing ∷ initially ∷ 1 ∷ initially ∷ []) (1 ∷ 2 ∷ 3 ∷ 0 ∷ []) allowed
+    ∷ allWitnesses (amoPasses releaseRCpc) []
+    ∷ searched (amoPasses releaseRCpc) [] ample (noneLeft 18)
+    ∷ allWitnesses (amoPasses unannotated) ((1 ∷ 2 ∷ 3 ∷ 0 ∷ []) ∷ [])
+    ∷ searched (amoPasses unannotated) [] ample (found (1 ∷ 2 ∷ 3 ∷ 0 ∷ []) 18)
+    ∷ searched (amoPasses unannotated) (1 ∷ 2 ∷ 3 ∷ 0 ∷ []) ample (noneLeft 16)
+    -- With release-RCsc alone rule 7 orders 0 before 1 and 2 before 3, and nothing is left; without it C3's orders are witnesses.
+    ∷ judged (amoStores releaseRCsc) (initially ∷ initially ∷ initially ∷ initially ∷ []) (1 ∷ 2 ∷ 3 ∷ 0 ∷ []) (brokenPpo 0 1 (7 ∷ []))
+    ∷ judged (amoStores unannotated) (initially ∷ initially ∷ initially ∷ initially ∷ []) (1 ∷ 2 ∷ 3 ∷ 0 ∷ []) allowed
+    ∷ allWitnesses (amoStores releaseRCsc) []
+    ∷ searched (amoStores releaseRCsc) [] ample (noneLeft 18)
+    ∷ searched (amoStores unannotated) [] ample (found (1 ∷ 2 ∷ 3 ∷ 0 ∷ []) 27)
+    ∷ searched (amoStores unannotated) (3 ∷ 1 ∷ 2 ∷ 0 ∷ []) ample (noneLeft 5)
     ∷ []

@@ -30,11 +30,15 @@ dependsOnNone t k = eqb (event t k .addr) 0 && eqb (event t k .«data») 0 && eq
 wrong-none : (t : Table) (k : ℕ) → event t k .addr ≡ 0 → event t k .«data» ≡ 0 → event t k .ctrl ≡ 0 → line9 t k ≡ false
 unfolding line9 dataOfNonWriter namesWrongly
 wrong-none t k ea ed ec =
-    rw (some-none capacity (namesWrongly t k) named, and-right (not (writes t k)) (not (eqb (event t k .«data») 0)) nothing,
-    some-none (t .count) (lacksControl t k) (λ j l. lacks-none t k j ec))
+    rw (
+      some-none capacity (namesWrongly t k) named,
+      and-right (not (writes t k)) (not (eqb (event t k .«data») 0)) nothing,
+      some-none (t .count) (lacksControl t k) (λ j l. lacks-none t k j ec),
+    )
   where
     named : (m : ℕ) → m < capacity → namesWrongly t k m ≡ false
     named m l = sym (and-left _ _ (names-none t k m ea ed ec))
+
     nothing : not (eqb (event t k .«data») 0) ≡ false
     nothing = ap (λ (d : ℕ). not (eqb d 0)) ed
 

@@ -10,7 +10,7 @@ use Rattle.masks.specs.Bit.{bit}
 use Rattle.edition.specs.Limits.{maxHarts, maxLocations, maxEvents}
 use Rattle.table.specs.declared.Event.{Event}
 use Rattle.table.specs.declared.Table.{Table}
-use Rattle.table.specs.Events.{capacity, event, kind, reads, writes, memory, sameLocation, po, paired, readingKind, writingKind, fencingKind, store, sc, fencetso}
+use Rattle.table.specs.Events.{capacity, event, kind, reads, writes, memory, sameLocation, po, paired, readingKind, writingKind, fencingKind, load, store, lr, sc, fencetso}
 use Rattle.table.specs.Annotations.{acquirePc, acquireSc, releasePc, releaseSc, flags, acquire, release}
 use Rattle.refusals.specs.Lines.{Line, whole, record-of}
 
@@ -75,16 +75,16 @@ line7 t k = fieldOutOfRange t (event t k) || valueNotZero (event t k) || fenceNo
 unfoldable pub bothAtOnce : Table → ℕ → Bool
 bothAtOnce t k = acquirePc (flags t k) && acquireSc (flags t k) || releasePc (flags t k) && releaseSc (flags t k)
 
--- "a reader with release and no acquire"
-unfoldable pub readerReleases : Table → ℕ → Bool
-readerReleases t k = reads t k && release t k && not (acquire t k)
+-- "a load or LR with release and no acquire": an AMO may have either alone
+unfoldable pub loadReleases : Table → ℕ → Bool
+loadReleases t k = (eqb (kind t k) load || eqb (kind t k) lr) && release t k && not (acquire t k)
 
 -- "a plain store or SC with acquire and no release"
 unfoldable pub writerAcquires : Table → ℕ → Bool
 writerAcquires t k = (eqb (kind t k) store || eqb (kind t k) sc) && acquire t k && not (release t k)
 
 unfoldable pub line8 : Table → ℕ → Bool
-line8 t k = memory t k && (bothAtOnce t k || readerReleases t k || writerAcquires t k)
+line8 t k = memory t k && (bothAtOnce t k || loadReleases t k || writerAcquires t k)
 
 -- one of the three masks of k names m
 unfoldable pub names : Table → ℕ → ℕ → Bool

@@ -70,9 +70,8 @@ pub fn line8(t: Table, k: EventNo) -> bool
     let e = t.events[k.0 as usize];
     let acquire = acquires(e.flags);
     let release = releases(e.flags);
-    let writer = (e.kind == Kind::STORE) | (e.kind == Kind::SC);
+    let loads = (e.kind == Kind::LOAD) | (e.kind == Kind::LR);
+    let stores = (e.kind == Kind::STORE) | (e.kind == Kind::SC);
     table::memory(e)
-        & (both_at_once(e.flags)
-            | (table::reads(e) & release & !acquire)
-            | (writer & acquire & !release))
+        & (both_at_once(e.flags) | (loads & release & !acquire) | (stores & acquire & !release))
 }

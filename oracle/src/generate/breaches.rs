@@ -212,12 +212,12 @@ const ANNOTATIONS_BREACHES: RecordBreaches = &[
     (10, &[(record_at(10) + FLAGS, 0b1100)]),
     // Both of both.
     (11, &[(record_at(11) + FLAGS, 0b1111)]),
-    // A reader with release and no acquire: load, LR, AMO.
+    // A load or an LR with release and no acquire.
     (0, &[(record_at(0) + FLAGS, 0b0100)]),
     (0, &[(record_at(0) + FLAGS, 0b1000)]),
     (2, &[(record_at(2) + FLAGS, 0b1000)]),
-    (4, &[(record_at(4) + FLAGS, 0b0100)]),
-    (4, &[(record_at(4) + FLAGS, 0b1000)]),
+    (9, &[(record_at(9) + FLAGS, 0b0100)]),
+    (9, &[(record_at(9) + FLAGS, 0b1000)]),
     (11, &[(record_at(11) + FLAGS, 0b0100)]),
     // A plain store or an SC with acquire and no release.
     (1, &[(record_at(1) + FLAGS, 0b0001)]),

@@ -64,7 +64,7 @@ pub fn make_candidates() -> Calls {
     load_values(&mut calls);
     fences(&mut calls);
     annotations(&mut calls);
-    for (name, test) in litmus::all() {
+    for (name, test) in [litmus::all(), releasing_amos()].concat() {
         every_order(&mut calls, name, &test);
         every_pair(&mut calls, name, &test);
     }
@@ -218,7 +218,12 @@ fn fences(calls: &mut Calls) {
 
 /// Rules 5, 6 and 7: every lawful flags on two accesses, in the order the other way round.
 fn annotations(calls: &mut Calls) {
-    let pairs = [(load(0, X, 0), store(0, Y, 1)), (store(0, X, 1), load(0, Y, 0))];
+    let pairs = [
+        (load(0, X, 0), store(0, Y, 1)),
+        (store(0, X, 1), load(0, Y, 0)),
+        (store(0, X, 1), amo(0, Y, 0, 1)),
+        (amo(0, X, 0, 1), load(0, Y, 0)),
+    ];
     for (first, second) in pairs {
         for flags in 0..=ALL_FLAGS {
             for other in 0..=ALL_FLAGS {

@@ -10,3 +10,60 @@ pub mod random;
 pub mod readings;
 pub mod walks;
 pub mod writes;
+
+#[cfg(test)]
+mod tests {
+    use crate::candidates::{LEND, RETURNED, RULES, VERDICT};
+    use crate::stream::{Malformed, Stream};
+    use crate::table::{read, Kind, RELEASE_RCPC, RELEASE_RCSC};
+    use crate::walks::{SEARCH, WALK};
+
+    /// The blocks that a stream of calls lends.
+    fn lent(bytes: &[u8]) -> Result<Vec<&[u8]>, Malformed> {
+        let mut stream = Stream::new(bytes);
+        let mut blocks = Vec::new();
+        while !stream.is_empty() {
+            match stream.byte()? {
+                LEND => blocks.push(stream.frame()?),
+                VERDICT => drop((stream.list()?, stream.list()?)),
+                RETURNED => drop((stream.list()?, stream.byte()?)),
+                RULES => drop((stream.list()?, stream.number()?, stream.number()?)),
+                SEARCH => drop((stream.list()?, stream.byte()?, stream.number()?)),
+                WALK => drop((stream.byte()?, stream.number()?)),
+                _ => return Err(Malformed),
+            }
+        }
+        Ok(blocks)
+    }
+
+    fn frames(bytes: &[u8]) -> Result<Vec<&[u8]>, Malformed> {
+        let mut stream = Stream::new(bytes);
+        let mut blocks = Vec::new();
+        while !stream.is_empty() {
+            blocks.push(stream.frame()?);
+        }
+        Ok(blocks)
+    }
+
+    /// How many good blocks have an AMO with just these flags.
+    fn with_amo(blocks: &[&[u8]], flags: u8) -> usize {
+        let tables = blocks.iter().filter_map(|block| read(block).ok());
+        tables.filter(|t| t.events.iter().any(|e| e.kind == Kind::Amo && e.flags == flags)).count()
+    }
+
+    #[test]
+    fn each_stream_has_amos_with_either_release_alone() {
+        let readings = super::readings::make_readings();
+        let candidates = super::candidates::make_candidates().stream;
+        let walks = super::walks::make_walks();
+        let streams = [
+            frames(&readings).expect("the stream is whole"),
+            lent(&candidates).expect("the stream is whole"),
+            lent(&walks).expect("the stream is whole"),
+        ];
+        for blocks in streams {
+            assert!(with_amo(&blocks, RELEASE_RCPC) >= 4);
+            assert!(with_amo(&blocks, RELEASE_RCSC) >= 4);
+        }
+    }
+}

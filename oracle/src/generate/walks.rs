@@ -71,7 +71,7 @@ pub fn make_walks() -> Vec<u8> {
     let prng = &mut Prng::new(SEED);
     let mut calls =
         Calls { stream: Vec::new(), block: Vec::new(), memory_events: 0, walk: Walk::default() };
-    for (_, test) in litmus::all() {
+    for (_, test) in [litmus::all(), releasing_amos()].concat() {
         for way in WAYS {
             way(&mut calls, prng, &test);
         }

@@ -40,9 +40,11 @@ loop-less c = search needs
 
 loop-again : tie.Need-loop-again Inv-loop μ-loop
 unfolding notZero
-loop-again c =
-    (omega arith, omega (arith, c .wide .ensures .1, c .before .before .before .loop .inv .1),
-    sum-more _ _ (c .before .before .before .loop .sum) (c .wide .result) (c .before .before .before .loop .inv .2) (ap (λ (b : ℕ). not (eqb b 0)) (sym (c .wide .ensures .0))))
+loop-again c = (
+  omega arith,
+  omega (arith, c .wide .ensures .1, c .before .before .before .loop .inv .1),
+  sum-more _ _ (c .before .before .before .loop .sum) (c .wide .result) (c .before .before .before .loop .inv .2) (ap (λ (b : ℕ). not (eqb b 0)) (sym (c .wide .ensures .0))),
+)
 
 returns : tie.Need-returns Inv-loop μ-loop
 returns c =

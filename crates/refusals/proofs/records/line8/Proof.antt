@@ -1,6 +1,6 @@
 use Rattle.table.specs.Annotations.{flags, acquire, release}
 use Rattle.table.specs.Events.{memory, reads, writes, kind, event}
-use Rattle.refusals.specs.TableLines.{line8, bothAtOnce, readerReleases, writerAcquires}
+use Rattle.refusals.specs.TableLines.{line8, bothAtOnce, loadReleases, writerAcquires}
 use borrow.Author.Needs.{needs}
 use Rattle.refusals.proofs.records.line8.Statement.{statement}
 use Rattle.refusals.proofs.records.line8.Tie as tie
@@ -26,11 +26,8 @@ memory-requires c κs = search needs
 both-at-once-requires : tie.Need-both-at-once-requires
 both-at-once-requires c κs = search needs
 
-reads-requires : tie.Need-reads-requires
-reads-requires c κs = search needs
-
 returns : tie.Need-returns
-unfolding line8 bothAtOnce readerReleases writerAcquires flags acquire release memory reads writes kind event
+unfolding line8 bothAtOnce loadReleases writerAcquires flags acquire release memory reads writes kind event
 returns c = cc
 
 pub line8-spec : {M : Type 1} → statement M
@@ -44,5 +41,4 @@ line8-spec =
     releases-requires
     memory-requires
     both-at-once-requires
-    reads-requires
     returns)
