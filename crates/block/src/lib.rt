@@ -97,7 +97,7 @@ fn read_whole(s: &[u8]) -> Reading
         return refused(4);
     }
     let t = decode::decode(s);
-    table_if(refusals::refuse(t, zeros::bytes_not_zero(s)), t)
+    table_if(table_lines::refuse(t, zeros::bytes_not_zero(s)), t)
 }
 
 // Any bytes: the lowest refusal of 1 to 11, and the table, which is blank if there is one.

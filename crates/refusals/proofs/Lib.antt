@@ -1,4 +1,3 @@
 pub mod LineLaws
 pub mod PassedLaws
 pub mod InRange
-pub mod DependencyLaws

@@ -1,18 +1,7 @@
-// Lines 5 to 11 of the table of refusals, each a test of the table, and the first that holds.
+// The table of refusals: its answers, and its test of a range. The lines themselves are the crates named so.
 use edition::EventNo;
-use table::Table;
-
-mod dependencies;
-mod ranges;
-mod records;
-
-ghost use Prim.Native.Nat.{_≤_};
 ghost use mathlib.Core.Path.{_≡_};
-ghost use Rattle.lists.specs.Below.{lowest};
-ghost use Rattle.table.specs.Events.{capacity};
-ghost use Rattle.refusals.specs.Lines.{firstLine};
-ghost use Rattle.refusals.specs.TableLines.{line7, line8, line9, line10, recordLines, tableLines};
-ghost use Rattle.refusals.specs.Refusals.{refusalOf};
+ghost use Rattle.refusals.specs.TableLines.{outside};
 
 pub enum Refusal {
     None,
@@ -20,99 +9,9 @@ pub enum Refusal {
     Record(u8, EventNo),
 }
 
-// The lowest record that line 7 refuses; the number of records if none is.
-fn lowest7(t: Table) -> u8
-    requires { ⌜ t .count ≤ capacity ⌝ }
-    ensures { λ r. ⌜ r ≡ lowest (t .count) (line7 t) ⌝ }
+// n is not one of 1 .. most.
+pub fn outside(n: u8, most: usize) -> bool
+    ensures { λ r. ⌜ r ≡ outside n most ⌝ }
 {
-    let mut k: u8 = 0;
-    while k < t.count {
-        if records::line7(t, EventNo(k)) {
-            return k;
-        }
-        k += 1;
-    }
-    t.count
-}
-
-fn lowest8(t: Table) -> u8
-    requires { ⌜ t .count ≤ capacity ⌝ }
-    ensures { λ r. ⌜ r ≡ lowest (t .count) (line8 t) ⌝ }
-{
-    let mut k: u8 = 0;
-    while k < t.count {
-        if records::line8(t, EventNo(k)) {
-            return k;
-        }
-        k += 1;
-    }
-    t.count
-}
-
-fn lowest9(t: Table) -> u8
-    requires { ⌜ t .count ≤ capacity ⌝ }
-    ensures { λ r. ⌜ r ≡ lowest (t .count) (line9 t) ⌝ }
-{
-    let mut k: u8 = 0;
-    while k < t.count {
-        if dependencies::line9(t, EventNo(k)) {
-            return k;
-        }
-        k += 1;
-    }
-    t.count
-}
-
-fn lowest10(t: Table) -> u8
-    requires { ⌜ t .count ≤ capacity ⌝ }
-    ensures { λ r. ⌜ r ≡ lowest (t .count) (line10 t) ⌝ }
-{
-    let mut k: u8 = 0;
-    while k < t.count {
-        if dependencies::line10(t, EventNo(k)) {
-            return k;
-        }
-        k += 1;
-    }
-    t.count
-}
-
-// The first of lines 7 to 11 that holds.
-fn refuse_records(t: Table) -> Refusal
-    requires { ⌜ t .count ≤ capacity ⌝ }
-    ensures { λ r. ⌜ refusalOf r ≡ firstLine (t .count) (recordLines t) ⌝ }
-{
-    let k7 = lowest7(t);
-    if k7 < t.count {
-        return Refusal::Record(7, EventNo(k7));
-    }
-    let k8 = lowest8(t);
-    if k8 < t.count {
-        return Refusal::Record(8, EventNo(k8));
-    }
-    let k9 = lowest9(t);
-    if k9 < t.count {
-        return Refusal::Record(9, EventNo(k9));
-    }
-    let k10 = lowest10(t);
-    if k10 < t.count {
-        return Refusal::Record(10, EventNo(k10));
-    }
-    if ranges::line11(t) {
-        return Refusal::Line(11);
-    }
-    Refusal::None
-}
-
-// The first of lines 5 to 11 that holds; `extra` is what line 6 says of bytes that are no field of the table.
-pub fn refuse(t: Table, extra: bool) -> Refusal
-    ensures { λ r. ⌜ refusalOf r ≡ firstLine (t .count) (tableLines extra t) ⌝ }
-{
-    if ranges::line5(t) {
-        return Refusal::Line(5);
-    }
-    if extra | ranges::line6(t) {
-        return Refusal::Line(6);
-    }
-    refuse_records(t)
+    (n == 0) | (most < n as usize)
 }

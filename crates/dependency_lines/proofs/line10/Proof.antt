@@ -1,0 +1,42 @@
+use mathlib.Core.Path.{_≡_, ap, _∙_}
+use mathlib.Core.Bool.{true, false, not}
+use borrow.Author.Tests.{eq-eqb, ne-eqb}
+use lib.Dec.{eqb}
+use Rattle.lists.proofs.BoolLaws.{and-taken, and-left}
+use Rattle.table.specs.declared.Table.{Table}
+use Rattle.table.specs.Events.{kind, event, sc}
+use Rattle.refusals.specs.TableLines.{line10}
+use borrow.Author.Needs.{needs}
+use Rattle.dependency_lines.proofs.line10.Statement.{statement}
+use Rattle.dependency_lines.proofs.line10.Tie as tie
+
+cast-if1 : tie.Need-cast-if1
+cast-if1 c = search needs
+
+mul-if1 : tie.Need-mul-if1
+mul-if1 c = search needs
+
+element-copy-out-if1 : tie.Need-element-copy-out-if1
+element-copy-out-if1 c = search needs
+
+some-paired-requires : tie.Need-some-paired-requires
+some-paired-requires c κs = search needs
+
+returns : tie.Need-returns
+unfolding line10 kind event
+returns c =
+    let v = c .before .before .before .args in
+    let e : eqb (kind (v .t1) (v .k .0)) sc ≡ true = eq-eqb _ _ (c .before .if1 .taken) in
+    ap not (c .some-paired .ensures) ∙ and-taken _ _ e
+
+returns-2 : tie.Need-returns-2
+unfolding line10 kind event
+returns-2 c =
+    let v = c .before .before .args in
+    let e : eqb (kind (v .t1) (v .k .0)) sc ≡ false = ne-eqb _ _ (c .if1 .left) in
+    and-left _ _ e
+
+pub line10-spec : {M : Type 1} → statement M
+line10-spec =
+    tie.close
+    (tie.spec cast-if1 mul-if1 element-copy-out-if1 some-paired-requires returns returns-2)

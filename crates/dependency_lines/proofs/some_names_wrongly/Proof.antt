@@ -1,0 +1,88 @@
+use Rattle.table.specs.Events.{capacity, po, hart, kind, event}
+use Rattle.refusals.specs.TableLines.{namesWrongly, names}
+use Prim.Native.Nat.{_-_}
+use mathlib.Core.Path.{sym}
+use native.Mathlib.Omega.{arith}
+use Rattle.lists.proofs.ScanLaws.{Scanned, scan-start, scan-more, some-hit, some-end}
+use borrow.Author.Needs.{needs}
+use Rattle.dependency_lines.proofs.some_names_wrongly.Statement.{statement}
+use Rattle.dependency_lines.proofs.some_names_wrongly.Tie as tie
+
+abbrev Inv-loop : tie.InvT-loop
+Inv-loop k t e m₀ m = Scanned (namesWrongly t (k .0)) capacity m
+
+abbrev μ-loop : tie.MeasureT-loop
+μ-loop k t e m₀ m = capacity - m
+
+cast-e : tie.Need-cast-e Inv-loop μ-loop
+cast-e c = search needs
+
+mul-e : tie.Need-mul-e Inv-loop μ-loop
+mul-e c = search needs
+
+element-copy-out-e : tie.Need-element-copy-out-e Inv-loop μ-loop
+element-copy-out-e c = search needs
+
+loop-holds : tie.Need-loop-holds Inv-loop μ-loop
+loop-holds c = scan-start _ _
+
+cast-loop : tie.Need-cast-loop Inv-loop μ-loop
+cast-loop c = search needs
+
+cast-z : tie.Need-cast-z Inv-loop μ-loop
+cast-z c = search needs
+
+mul-z : tie.Need-mul-z Inv-loop μ-loop
+mul-z c = search needs
+
+element-copy-out-z : tie.Need-element-copy-out-z Inv-loop μ-loop
+element-copy-out-z c = search needs
+
+names-requires : tie.Need-names-requires Inv-loop μ-loop
+names-requires c κs = search needs
+
+program-order-requires : tie.Need-program-order-requires Inv-loop μ-loop
+program-order-requires c κs = search needs
+
+fences-requires : tie.Need-fences-requires Inv-loop μ-loop
+fences-requires c κs = search needs
+
+returns : tie.Need-returns Inv-loop μ-loop
+unfolding namesWrongly names po hart kind event
+returns c = sym (some-hit _ _ _ (c .before .before .before .before .before .before .before .loop .inv) (omega arith) (rw (c .before .before .before .before .names .ensures, c .before .before .before .program-order .ensures, c .before .fences .ensures) at (c .if1 .taken)))
+
+add-m : tie.Need-add-m Inv-loop μ-loop
+add-m c = search needs
+
+loop-less : tie.Need-loop-less Inv-loop μ-loop
+loop-less c = search needs
+
+loop-again : tie.Need-loop-again Inv-loop μ-loop
+unfolding namesWrongly names po hart kind event
+loop-again c = scan-more _ _ _ (c .before .before .before .before .before .before .before .loop .inv) (omega arith) (rw (c .before .before .before .before .names .ensures, c .before .before .before .program-order .ensures, c .before .fences .ensures) at (c .if1 .left))
+
+returns-2 : tie.Need-returns-2 Inv-loop μ-loop
+returns-2 c = sym (some-end _ _ _ (c .before .loop .inv) (omega arith))
+
+pub some-names-wrongly-spec : {M : Type 1} → statement M
+some-names-wrongly-spec =
+    tie.close
+    (tie.spec
+    Inv-loop
+    μ-loop
+    cast-e
+    mul-e
+    element-copy-out-e
+    loop-holds
+    cast-loop
+    cast-z
+    mul-z
+    element-copy-out-z
+    names-requires
+    program-order-requires
+    fences-requires
+    returns
+    add-m
+    loop-less
+    loop-again
+    returns-2)

@@ -1,0 +1,110 @@
+// Lines 9 and 10: tests of a record against the other records of its hart.
+use edition::EventNo;
+use table::Event;
+use table::Kind;
+use table::Table;
+ghost use Prim.Native.Nat.{_≤_, _<_};
+ghost use mathlib.Core.Path.{_≡_};
+ghost use mathlib.Core.Bool.{_&&_, _||_, not};
+ghost use lib.Dec.{eqb};
+ghost use Rattle.lists.specs.Below.{some};
+ghost use Rattle.masks.specs.Bit.{bit};
+ghost use Rattle.table.specs.Events.{capacity, writingKind, paired, sameLocation};
+ghost use Rattle.refusals.specs.TableLines.{namesWrongly, dataOfNonWriter, lacksControl, line9, pairedHere, line10};
+
+// One of the event's three masks names event m.
+fn names(e: Event, m: u8) -> bool
+    requires { ⌜ m < capacity ⌝ }
+    ensures { λ r. ⌜ r ≡ (bit (e .addr) m || bit (e .«data») m || bit (e .ctrl) m) ⌝ }
+{
+    masks::has(e.addr, m as u32) | masks::has(e.data, m as u32) | masks::has(e.ctrl, m as u32)
+}
+
+fn some_names_wrongly(t: Table, k: EventNo) -> bool
+    requires { ⌜ k .0 < capacity ⌝ }
+    ensures { λ r. ⌜ r ≡ some capacity (namesWrongly t (k .0)) ⌝ }
+{
+    let e = t.events[k.0 as usize];
+    let mut m: u8 = 0;
+    while (m as usize) < table::CAPACITY {
+        let z = t.events[m as usize];
+        if names(e, m)
+            & (!table::program_order(EventNo(m), z, k, e)
+                | (z.kind == Kind::STORE)
+                | table::fences(z))
+        {
+            return true;
+        }
+        m += 1;
+    }
+    false
+}
+
+// b lacks a bit of a.
+fn lacks(a: u32, b: u32) -> bool
+    ensures { λ r. ⌜ r ≡ some capacity (λ m. bit a m && not (bit b m)) ⌝ }
+{
+    !masks::within(a, b)
+}
+
+fn some_lacks_control(t: Table, k: EventNo) -> bool
+    requires { ⌜ (k .0 < capacity) × (t .count ≤ capacity) ⌝ }
+    ensures { λ r. ⌜ r ≡ some (t .count) (lacksControl t (k .0)) ⌝ }
+{
+    let e = t.events[k.0 as usize];
+    let mut j: u8 = 0;
+    while j < t.count {
+        let z = t.events[j as usize];
+        if table::program_order(k, e, EventNo(j), z) & table::memory(z) & lacks(e.ctrl, z.ctrl) {
+            return true;
+        }
+        j += 1;
+    }
+    false
+}
+
+// None of the event's three masks names an event.
+fn depends_on_none(e: Event) -> bool
+    ensures { λ r. ⌜ r ≡ (eqb (e .addr) 0 && eqb (e .«data») 0 && eqb (e .ctrl) 0) ⌝ }
+{
+    (e.addr == 0) & (e.data == 0) & (e.ctrl == 0)
+}
+
+// Most events depend on none, and line 9 holds of none of these.
+pub fn line9(t: Table, k: EventNo) -> bool
+    requires { ⌜ (k .0 < capacity) × (t .count ≤ capacity) ⌝ }
+    ensures { λ r. ⌜ r ≡ line9 t (k .0) ⌝ }
+{
+    let e = t.events[k.0 as usize];
+    if depends_on_none(e) {
+        return false;
+    }
+    some_names_wrongly(t, k) | (!table::writes(e) & (e.data != 0)) | some_lacks_control(t, k)
+}
+
+// Some LR to the same location is paired with event k.
+fn some_paired(t: Table, k: EventNo) -> bool
+    requires { ⌜ (k .0 < capacity) × (t .count ≤ capacity) ⌝ }
+    ensures { λ r. ⌜ r ≡ some (t .count) (pairedHere t (k .0)) ⌝ }
+{
+    let e = t.events[k.0 as usize];
+    let mut l: u8 = 0;
+    while l < t.count {
+        if table::paired(t, EventNo(l), k) & table::same_location(t.events[l as usize], e) {
+            return true;
+        }
+        l += 1;
+    }
+    false
+}
+
+pub fn line10(t: Table, k: EventNo) -> bool
+    requires { ⌜ (k .0 < capacity) × (t .count ≤ capacity) ⌝ }
+    ensures { λ r. ⌜ r ≡ line10 t (k .0) ⌝ }
+{
+    if t.events[k.0 as usize].kind == Kind::SC {
+        !some_paired(t, k)
+    } else {
+        false
+    }
+}

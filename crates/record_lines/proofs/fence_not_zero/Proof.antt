@@ -1,0 +1,14 @@
+use Rattle.refusals.specs.TableLines.{fenceNotZero}
+use borrow.Author.Needs.{needs}
+use Rattle.record_lines.proofs.fence_not_zero.Statement.{statement}
+use Rattle.record_lines.proofs.fence_not_zero.Tie as tie
+
+fences-requires : tie.Need-fences-requires
+fences-requires c κs = search needs
+
+returns : tie.Need-returns
+unfolding fenceNotZero
+returns c = cc
+
+pub fence-not-zero-spec : {M : Type 1} → statement M
+fence-not-zero-spec = tie.close (tie.spec fences-requires returns)

@@ -1,0 +1,17 @@
+use Rattle.refusals.specs.TableLines.{fieldOutOfRange}
+use borrow.Author.Needs.{needs}
+use Rattle.record_lines.proofs.field_out_of_range.Statement.{statement}
+use Rattle.record_lines.proofs.field_out_of_range.Tie as tie
+
+cast-outside : tie.Need-cast-outside
+cast-outside c = search needs
+
+outside-requires : tie.Need-outside-requires
+outside-requires c κs = search needs
+
+returns : tie.Need-returns
+unfolding fieldOutOfRange
+returns c = cc
+
+pub field-out-of-range-spec : {M : Type 1} → statement M
+field-out-of-range-spec = tie.close (tie.spec cast-outside outside-requires returns)

@@ -1,0 +1,65 @@
+use Rattle.edition.specs.Limits.{maxLocations}
+use Rattle.refusals.specs.TableLines.{missing, statesMissing}
+use Prim.Native.Nat.{_-_}
+use mathlib.Core.Path.{sym}
+use native.Mathlib.Omega.{arith}
+use Rattle.lists.proofs.ScanLaws.{Scanned, scan-start, scan-more, some-hit, some-end}
+use borrow.Author.Needs.{needs}
+use Rattle.whole_lines.proofs.states_missing.Statement.{statement}
+use Rattle.whole_lines.proofs.states_missing.Tie as tie
+
+abbrev Inv-loop : tie.InvT-loop
+Inv-loop t x₀ x = Scanned (missing t) maxLocations x
+
+abbrev μ-loop : tie.MeasureT-loop
+μ-loop t x₀ x = maxLocations - x
+
+loop-holds : tie.Need-loop-holds Inv-loop μ-loop
+loop-holds c = scan-start _ _
+
+cast-loop : tie.Need-cast-loop Inv-loop μ-loop
+cast-loop c = search needs
+
+cast-has : tie.Need-cast-has Inv-loop μ-loop
+cast-has c = search needs
+
+cast-has-2 : tie.Need-cast-has-2 Inv-loop μ-loop
+cast-has-2 c = search needs
+
+has-requires : tie.Need-has-requires Inv-loop μ-loop
+has-requires c κs = search needs
+
+returns : tie.Need-returns Inv-loop μ-loop
+unfolding missing statesMissing
+returns c = sym (some-hit _ _ _ (c .before .before .before .before .before .loop .inv) (omega arith) (rw (c .before .before .has .ensures) at (c .if1 .taken)))
+
+add-x : tie.Need-add-x Inv-loop μ-loop
+add-x c = search needs
+
+loop-less : tie.Need-loop-less Inv-loop μ-loop
+loop-less c = search needs
+
+loop-again : tie.Need-loop-again Inv-loop μ-loop
+unfolding missing statesMissing
+loop-again c = scan-more _ _ _ (c .before .before .before .before .before .loop .inv) (omega arith) (rw (c .before .before .has .ensures) at (c .if1 .left))
+
+returns-2 : tie.Need-returns-2 Inv-loop μ-loop
+unfolding statesMissing
+returns-2 c = sym (some-end _ _ _ (c .before .loop .inv) (omega arith))
+
+pub states-missing-spec : {M : Type 1} → statement M
+states-missing-spec =
+    tie.close
+    (tie.spec
+    Inv-loop
+    μ-loop
+    loop-holds
+    cast-loop
+    cast-has
+    cast-has-2
+    has-requires
+    returns
+    add-x
+    loop-less
+    loop-again
+    returns-2)
