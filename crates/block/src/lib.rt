@@ -24,24 +24,13 @@ pub struct Reading {
 pub fn no_table() -> Table
     ensures { λ r. ⌜ r ≡ noTable ⌝ }
 {
-    let blank = table::Event {
-        kind: 0,
-        hart: 0,
-        location: edition::LocationNo(0),
-        flags: 0,
-        addr: 0,
-        data: 0,
-        ctrl: 0,
-        read: 0,
-        written: 0,
-    };
     Table {
         harts: 0,
         locations: 0,
         count: 0,
         stated: 0,
         initial: [0; 8],
-        events: [blank; 32],
+        events: [table::no_event(); 32],
         finals: [0; 8],
     }
 }

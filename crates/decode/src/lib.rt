@@ -9,7 +9,7 @@ ghost use mathlib.Core.Path.{_≡_};
 ghost use lib.ListN.{length};
 ghost use Rattle.lists.specs.Filled.{upTo};
 ghost use Rattle.edition.specs.Limits.{blockLength, maxLocations};
-ghost use Rattle.table.specs.Events.{noEvent, capacity};
+ghost use Rattle.table.specs.Events.{capacity};
 ghost use Rattle.decode.specs.Layout.{byteAt, wordAt, storedCheck};
 ghost use Rattle.decode.specs.Decoded.{recordFrom, eventAt, decoded};
 
@@ -112,23 +112,6 @@ fn record_at(s: &[u8], at: usize) -> Event
     }
 }
 
-// A slot past the block's records.
-fn no_event() -> Event
-    ensures { λ r. ⌜ r ≡ noEvent ⌝ }
-{
-    Event {
-        kind: 0,
-        hart: 0,
-        location: LocationNo(0),
-        flags: 0,
-        addr: 0,
-        data: 0,
-        ctrl: 0,
-        read: 0,
-        written: 0,
-    }
-}
-
 // Slot `k` of the table.
 fn event_at(s: &[u8], k: usize) -> Event
     requires { ⌜ (length (now s) ≡ blockLength) × (k < capacity) ⌝ }
@@ -137,7 +120,7 @@ fn event_at(s: &[u8], k: usize) -> Event
     if k < EditionOne::EVENTS {
         record_at(s, At::RECORDS + RECORD * k)
     } else {
-        no_event()
+        table::no_event()
     }
 }
 
@@ -145,7 +128,7 @@ fn events(s: &[u8]) -> [Event; CAPACITY]
     requires { ⌜ length (now s) ≡ blockLength ⌝ }
     ensures { λ r. ⌜ r ≡ upTo capacity (eventAt (now (s .entry))) ⌝ }
 {
-    let mut list = [no_event(); CAPACITY];
+    let mut list = [table::no_event(); CAPACITY];
     let mut k: usize = 0;
     while k < CAPACITY {
         list[k] = event_at(s, k);

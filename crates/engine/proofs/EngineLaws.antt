@@ -10,7 +10,8 @@ use Rattle.lists.specs.Below.{below}
 use Rattle.lists.specs.Lists.{has, keep}
 use Rattle.lists.specs.Ascending.{Ascending}
 use Rattle.lists.proofs.ListLaws.{_∈_}
-use Rattle.lists.proofs.KeepLaws.{all-weaken, has-keep, has-below}
+use Rattle.lists.proofs.KeepLaws.{all-weaken}
+use Rattle.lists.proofs.MemberLaws.{has-keep, below-has}
 use Rattle.masks.specs.Bit.{bit}
 use Rattle.masks.specs.MaskOf.{maskOf}
 use Rattle.masks.proofs.PowerLaws.{lt-pow}
@@ -43,7 +44,7 @@ module _ (preds : List ℕ) (mem : ℕ) where
       (all-weaken (bit mem) (λ x. has x (keep (bit mem) (below slots))) q among (clean-events preds mem q h)) (clean-short preds mem q h)
     where
       among : (x : ℕ) → bit mem x ≡ true → has x (keep (bit mem) (below slots)) ≡ true
-      among x i = has-keep (bit mem) (below slots) x i (has-below slots x (bit-below slots mem x small i))
+      among x i = has-keep (bit mem) (below slots) x (below-has slots x (bit-below slots mem x small i)) i
 
   -- and ascends
   pub masked-ascending : Ascending (masked preds mem)

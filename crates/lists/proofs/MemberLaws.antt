@@ -3,14 +3,15 @@ use Prim.Native.Nat.{ℕ, zero, suc, _+_, _≤_, _<_}
 use native.Mathlib.Nat.{eq-or-lt-of-le}
 use native.Mathlib.Omega.{arith}
 use mathlib.Core.Path.{_≡_, refl, sym, ap, _∙_}
-use mathlib.Core.Bool.{Bool, true, false, _||_, or-true, or-assoc, false≢true}
+use mathlib.Core.Bool.{Bool, true, false, _&&_, _||_, and-false, or-true, or-assoc, false≢true}
 use mathlib.Core.List.{List, [], _∷_, _++_, List·Memᴰ·head, List·Memᴰ·tail, List·Memᴰ·cases-cons, List·Memᴰ·not-nil}
 use mathlib.Core.Logic.{⊎-elim}
-use lib.Dec.{eqb}
-use borrow.Author.Tests.{eqb-true, eq-eqb}
+use lib.Dec.{eqb, ltb}
+use borrow.Author.Tests.{ltb-true, lt-ltb, eqb-true, eq-eqb}
 use Rattle.lists.specs.Below.{upFrom, below}
 use Rattle.lists.specs.Lists.{all, has, kept, keep}
-use Rattle.lists.proofs.ListLaws.{_∈_}
+use Rattle.lists.proofs.BoolLaws.{bool-ext}
+use Rattle.lists.proofs.ListLaws.{_∈_, all-has}
 
 -- a number in the rest of a list is in the list
 pub has-later : (x y : ℕ) (l : List ℕ) → has x l ≡ true → has x (y ∷ l) ≡ true
@@ -30,17 +31,21 @@ has-append x (y ∷ l) m = ap (λ (b : Bool). eqb x y || b) (has-append x l m) �
 pub has-left : (x : ℕ) (l m : List ℕ) → has x l ≡ true → has x (l ++ m) ≡ true
 has-left x l m h = has-append x l m ∙ ap (λ (b : Bool). b || has x m) h
 
+-- a number is kept if it is there and passes
+pub has-kept : (f : ℕ → Bool) (l : List ℕ) (k : ℕ) → has k (keep f l) ≡ (has k l && f k)
+has-kept f [] k = refl
+has-kept f (x ∷ l) k = go (eqb k x) refl (f x) refl (has-kept f l k)
+  where
+    go : (b : Bool) → eqb k x ≡ b → (v : Bool) → f x ≡ v → has k (keep f l) ≡ (has k l && f k) →
+        has k (kept v x (keep f l)) ≡ ((b || has k l) && f k)
+    go true e true p later = rw (e, ap f (eqb-true k x e) ∙ p)
+    go true e false p later = let q : f k ≡ false = ap f (eqb-true k x e) ∙ p in later ∙ rw (q) (and-false (has k l))
+    go false e true p later = rw e later
+    go false e false p later = later
+
 -- a number in the list that passes is kept
 pub has-keep : (f : ℕ → Bool) (l : List ℕ) (x : ℕ) → has x l ≡ true → f x ≡ true → has x (keep f l) ≡ true
-has-keep f [] x h k = h
-has-keep f (y ∷ l) x h k = go (eqb x y) (f y) refl refl h (λ m. has-keep f l x m k)
-  where
-    go : (b c : Bool) → eqb x y ≡ b → f y ≡ c → (b || has x l) ≡ true → (has x l ≡ true → has x (keep f l) ≡ true) →
-        has x (kept c y (keep f l)) ≡ true
-    go true true e d h later = rw e
-    go true false e d h later = absurd (false≢true (sym d ∙ ap f (sym (eqb-true x y e)) ∙ k))
-    go false true e d h later = has-later x y (keep f l) (later h)
-    go false false e d h later = later h
+has-keep f l x h k = has-kept f l x ∙ rw (h, k)
 
 -- the numbers from k on have each below k + m
 from-has : (k m x : ℕ) → k ≤ x → x < k + m → has x (upFrom k m) ≡ true
@@ -53,6 +58,19 @@ from-has k (suc m) x h l =
 -- the numbers below n have each
 pub below-has : (n x : ℕ) → x < n → has x (below n) ≡ true
 below-has n x h = from-has 0 n x (omega arith) (omega arith)
+
+-- the numbers from a on are below n
+pub all-from : (n a m : ℕ) → a + m ≤ n → all (λ e. ltb e n) (upFrom a m) ≡ true
+unfolding upFrom
+all-from n a zero h = refl
+all-from n a (suc m) h = rw (lt-ltb a n (omega arith)) (all-from n (suc a) m (omega arith))
+
+-- the numbers below n are those less than n
+pub has-below : (n k : ℕ) → has k (below n) ≡ ltb k n
+has-below n k =
+    bool-ext (has k (below n)) (ltb k n)
+    (all-has (λ e. ltb e n) (below n) k (all-from n 0 n (omega arith)))
+    (λ h. below-has n k (ltb-true k n h))
 
 module _ {A : Type 0} (f : A → Bool) where
   -- an entry kept is an entry of the list that passes

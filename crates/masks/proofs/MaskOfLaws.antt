@@ -1,18 +1,22 @@
 -- Laws of the mask of a list.
-use Prim.Native.Nat.{ℕ, zero, suc, _^_, _<_}
+use Prim.Native.Nat.{ℕ, zero, suc, _^_, _≤_, _<_}
 use mathlib.Core.Path.{_≡_, refl, sym, ap, ap₂, _∙_}
-use mathlib.Core.Bool.{Bool, true, false, not, _||_, or-comm, or-true, false≢true}
+use mathlib.Core.Bool.{Bool, true, not, _&&_, _||_, or-comm}
 use mathlib.Core.List.{List, [], _∷_}
+use native.Mathlib.Omega.{arith}
 use lib.Dec.{eqb, ltb, eqb·zero-suc, eqb·suc-zero, eqb·suc-suc}
 use lib.ListN.{length}
 use lib.Pow.{pow-pos, pow-lt}
 use lib.Bits.{bitAnd, or-lt}
 use lib.Count.{ones}
 use borrow.Author.Tests.{ltb-true, eqb-true, eq-eqb, not-true}
-use Rattle.lists.specs.Lists.{all, has, distinct}
+use Rattle.lists.specs.Below.{below}
+use Rattle.lists.specs.Lists.{all, has, keep, distinct}
 use Rattle.masks.specs.Bit.{bit}
 use Rattle.masks.specs.MaskOf.{maskOf}
 use Rattle.lists.proofs.BoolLaws.{and-l, and-r, bool-ext}
+use Rattle.lists.proofs.ListLaws.{all-keep, all-has}
+use Rattle.lists.proofs.MemberLaws.{has-all, has-kept, all-from, has-below}
 use Rattle.masks.proofs.BitLaws.{bit-or, bit-zero, bit-pow}
 use Rattle.masks.proofs.PowerLaws.{lt-pow, ones-or}
 use Rattle.masks.proofs.SubsetLaws.{subset}
@@ -40,6 +44,14 @@ mask-lt w (e ∷ p) h =
     let rest : Bool = all (λ x. ltb x w) p in
     or-lt w (maskOf p) (2 ^ e) (mask-lt w p (and-r (ltb e w) rest h)) (pow-lt (ltb-true e w (and-l (ltb e w) rest h)))
 
+-- the bits of the mask are the numbers below n that pass
+pub mask-below : (f : ℕ → Bool) (n k : ℕ) → bit (maskOf (keep f (below n))) k ≡ (ltb k n && f k)
+mask-below f n k = mask-has (keep f (below n)) k ∙ has-kept f (below n) k ∙ ap (λ (b : Bool). b && f k) (has-below n k)
+
+-- the mask is one of w bits
+pub mask-below-lt : (f : ℕ → Bool) (n w : ℕ) → n ≤ w → maskOf (keep f (below n)) < 2 ^ w
+mask-below-lt f n w h = mask-lt w (keep f (below n)) (all-keep (λ e. ltb e w) f (below n) (all-from w 0 n (omega arith)))
+
 -- the mask of distinct entries has as many bits as the list has entries
 pub mask-ones : (p : List ℕ) → distinct p ≡ true → ones (maskOf p) ≡ length p
 unfolding maskOf ones
@@ -47,21 +59,6 @@ mask-ones [] h = refl
 mask-ones (e ∷ p) h =
     ones-or (maskOf p) e (mask-has p e ∙ not-true (has e p) (and-l (not (has e p)) (distinct p) h))
     ∙ ap suc (mask-ones p (and-r (not (has e p)) (distinct p) h))
-
--- what every entry passes, an entry passes
-all-has : (f : ℕ → Bool) (p : List ℕ) (k : ℕ) → all f p ≡ true → has k p ≡ true → f k ≡ true
-all-has f [] k h m = absurd (false≢true m)
-all-has f (e ∷ p) k h m = go (eqb k e) refl m (all-has f p k (and-r (f e) (all f p) h))
-  where
-    go : (t : Bool) → eqb k e ≡ t → (t || has k p) ≡ true → (has k p ≡ true → f k ≡ true) → f k ≡ true
-    go true q m r = ap f (eqb-true k e q) ∙ and-l (f e) (all f p) h
-    go false q m r = r m
-
--- what each entry passes, every one passes
-has-all : (f : ℕ → Bool) (p : List ℕ) → ((k : ℕ) → has k p ≡ true → f k ≡ true) → all f p ≡ true
-has-all f [] h = refl
-has-all f (e ∷ p) h =
-    rw (h e (rw (eq-eqb e e refl))) (has-all f p (λ k m. h k (ap (λ (t : Bool). eqb k e || t) m ∙ or-true (eqb k e))))
 
 -- the mask of a list is within b exactly when each entry has its bit in b
 pub mask-subset : (p : List ℕ) (b : ℕ) → eqb (bitAnd (maskOf p) b) (maskOf p) ≡ all (bit b) p

@@ -8,48 +8,13 @@ use lib.Dec.{eqb, ltb}
 use lib.Bits.{bitOr, or-zero-r}
 use borrow.Author.Tests.{ltb-true, lt-ltb, le-ltb, eqb-true, eqb-false}
 use Rattle.lists.specs.Below.{upFrom, below}
-use Rattle.lists.specs.Lists.{all, has, kept, keep}
+use Rattle.lists.specs.Lists.{keep}
 use Rattle.lists.proofs.BoolLaws.{bool-ext}
-use Rattle.lists.proofs.ListLaws.{all-has, all-keep}
-use Rattle.lists.proofs.MemberLaws.{below-has}
 use Rattle.masks.specs.Bit.{bit}
 use Rattle.masks.specs.MaskOf.{maskOf}
 use Rattle.masks.proofs.BitLaws.{bit-or, bit-zero, bit-pow}
 use Rattle.masks.proofs.PowerLaws.{bits-same}
-use Rattle.masks.proofs.MaskOfLaws.{mask-has, mask-lt}
-
--- the numbers from a on are below n
-all-from : (n a m : ℕ) → a + m ≤ n → all (λ e. ltb e n) (upFrom a m) ≡ true
-unfolding upFrom
-all-from n a zero h = refl
-all-from n a (suc m) h = rw (lt-ltb a n (omega arith)) (all-from n (suc a) m (omega arith))
-
--- the numbers below n are those less than n
-pub has-below : (n k : ℕ) → has k (below n) ≡ ltb k n
-has-below n k =
-    bool-ext (has k (below n)) (ltb k n)
-    (all-has (λ e. ltb e n) (below n) k (all-from n 0 n (omega arith)))
-    (λ h. below-has n k (ltb-true k n h))
-
--- a number is kept if it is there and passes
-pub has-keep : (f : ℕ → Bool) (l : List ℕ) (k : ℕ) → has k (keep f l) ≡ (has k l && f k)
-has-keep f [] k = refl
-has-keep f (x ∷ l) k = go (eqb k x) refl (f x) refl (has-keep f l k)
-  where
-    go : (b : Bool) → eqb k x ≡ b → (v : Bool) → f x ≡ v → has k (keep f l) ≡ (has k l && f k) →
-        has k (kept v x (keep f l)) ≡ ((b || has k l) && f k)
-    go true e true p later = rw (e, ap f (eqb-true k x e) ∙ p)
-    go true e false p later = let q : f k ≡ false = ap f (eqb-true k x e) ∙ p in later ∙ rw (q) (and-false (has k l))
-    go false e true p later = rw e later
-    go false e false p later = later
-
--- the bits of the mask are the numbers below n that pass
-pub mask-below : (f : ℕ → Bool) (n k : ℕ) → bit (maskOf (keep f (below n))) k ≡ (ltb k n && f k)
-mask-below f n k = mask-has (keep f (below n)) k ∙ has-keep f (below n) k ∙ ap (λ (b : Bool). b && f k) (has-below n k)
-
--- the mask is one of w bits
-pub mask-below-lt : (f : ℕ → Bool) (n w : ℕ) → n ≤ w → maskOf (keep f (below n)) < 2 ^ w
-mask-below-lt f n w h = mask-lt w (keep f (below n)) (all-keep (λ e. ltb e w) f (below n) (all-from w 0 n (omega arith)))
+use Rattle.masks.proofs.MaskOfLaws.{mask-below, mask-below-lt}
 
 -- one bit, if it passes
 pub bit-if : (b : Bool) (k j : ℕ) → bit (cond b (2 ^ k) 0) j ≡ (b && eqb k j)

@@ -8,12 +8,13 @@ use lib.ListN.{getD}
 use borrow.Author.Tests.{ltb-true, le-ltb, ne-eqb}
 use Rattle.masks.specs.Bit.{bit}
 use Rattle.masks.proofs.BitLaws.{bit-or}
+use Rattle.masks.proofs.MaskOfLaws.{mask-below}
 use Rattle.table.specs.declared.Table.{Table}
 use Rattle.table.specs.Events.{capacity, event}
 use Rattle.model.specs.Rules.{initially}
 use Rattle.model.specs.Returns.{initialValue, writtenValue}
 use Rattle.prepared.specs.Prepared.{writtenValues, initialSlot, leaving, leavingOf}
-use Rattle.prepared.proofs.GatherLaws.{bit-if, mask-below}
+use Rattle.prepared.proofs.GatherLaws.{bit-if}
 use Rattle.prepared.proofs.PreparedLaws.{entry-of}
 
 -- w is an event, or the initial write

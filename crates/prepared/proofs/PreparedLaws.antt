@@ -8,11 +8,12 @@ use lib.ListN.{getD}
 use borrow.Author.Tests.{lt-ltb}
 use Rattle.lists.proofs.FilledLaws.{getD-upTo}
 use Rattle.masks.specs.Bit.{bit}
+use Rattle.masks.proofs.MaskOfLaws.{mask-below-lt}
 use Rattle.edition.specs.Limits.{maxLocations}
 use Rattle.table.specs.declared.Table.{Table}
 use Rattle.table.specs.Events.{location, event, reads}
 use Rattle.prepared.specs.Prepared.{rival, ownRival, rivalsOf, ownOf, finalsOf, padded, leavingOf, rightOf, lastingOf}
-use Rattle.prepared.proofs.GatherLaws.{mask-none, mask-below-lt}
+use Rattle.prepared.proofs.GatherLaws.{mask-none}
 
 -- an entry that isn't padding
 pub entry-of : (m n : ℕ) (f : ℕ → ℕ) (k : ℕ) → n ≤ m → k < n → getD (padded m n f) k 0 ≡ f k

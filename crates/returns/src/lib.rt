@@ -24,17 +24,7 @@ fn event_of(t: Table, k: EventNo) -> Event
     if (k.0 as usize) < table::CAPACITY {
         return t.events[k.0 as usize];
     }
-    Event {
-        kind: 0,
-        hart: 0,
-        location: LocationNo(0),
-        flags: 0,
-        addr: 0,
-        data: 0,
-        ctrl: 0,
-        read: 0,
-        written: 0,
-    }
+    table::no_event()
 }
 
 // w is a writer to reader r's location that precedes r in the order or in program order, never r itself.

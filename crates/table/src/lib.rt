@@ -6,7 +6,7 @@ ghost use mathlib.Core.Path.{_≡_};
 ghost use Rattle.lists.specs.Below.{some};
 ghost use mathlib.Core.Bool.{_&&_};
 ghost use lib.Dec.{eqb, ltb};
-ghost use Rattle.table.specs.Events.{capacity, readingKind, writingKind, memoryKind, fencingKind, reserves, paired};
+ghost use Rattle.table.specs.Events.{capacity, readingKind, writingKind, memoryKind, fencingKind, reserves, paired, noEvent};
 
 // Room for 30 events and two more, so that every mask of events is a u32.
 pub const CAPACITY: usize = 32;
@@ -53,6 +53,23 @@ pub struct Table {
     pub initial: [u16; 8],
     pub events: [Event; 32],
     pub finals: [u16; 8],
+}
+
+// A blank: what stands in a slot past the events.
+pub fn no_event() -> Event
+    ensures { λ r. ⌜ r ≡ noEvent ⌝ }
+{
+    Event {
+        kind: 0,
+        hart: 0,
+        location: LocationNo(0),
+        flags: 0,
+        addr: 0,
+        data: 0,
+        ctrl: 0,
+        read: 0,
+        written: 0,
+    }
 }
 
 // Tests of events take the events and not the table: a table by value is copied at each call.

@@ -2,7 +2,6 @@
 use edition::EventNo;
 use refusals::Refusal;
 use table::Table;
-
 ghost use Prim.Native.Nat.{_≤_};
 ghost use mathlib.Core.Path.{_≡_};
 ghost use Rattle.lists.specs.Below.{lowest};

@@ -16,7 +16,7 @@ use Rattle.table.specs.declared.Table.{Table}
 use Rattle.table.specs.Events.{capacity, memory, memoryEvents}
 use Rattle.model.specs.Witness.{isMemoryEvent, isOrder}
 use Rattle.prepared.specs.Prepared.{initialSlot}
-use Rattle.prepared.proofs.GatherLaws.{has-keep, has-below}
+use Rattle.lists.proofs.MemberLaws.{has-kept, has-below}
 use Rattle.values.specs.QuickTest.{Listed}
 use Rattle.values.proofs.LastLaws.{last-all}
 
@@ -73,7 +73,7 @@ order-events t gmo h = and-l (all (isMemoryEvent t) gmo) (all (λ e. eqb (count 
 -- a memory event is in the list of them
 in-events : (t : Table) (e : ℕ) → isMemoryEvent t e ≡ true → has e (memoryEvents t) ≡ true
 unfolding isMemoryEvent memoryEvents
-in-events t e h = has-keep (memory t) (below (t .count)) e ∙ ap (λ (b : Bool). b && memory t e) (has-below (t .count) e) ∙ h
+in-events t e h = has-kept (memory t) (below (t .count)) e ∙ ap (λ (b : Bool). b && memory t e) (has-below (t .count) e) ∙ h
 
 -- an order has no event twice
 pub order-distinct : (t : Table) (gmo : List ℕ) → isOrder t gmo ≡ true → distinct gmo ≡ true

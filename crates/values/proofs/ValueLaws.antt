@@ -22,7 +22,7 @@ use Rattle.model.specs.Axioms.{breaksValueRead, breaksFinalValue, valuesRead, f
 use Rattle.model.specs.Witness.{isMemoryEvent, isOrder}
 use Rattle.prepared.specs.Prepared.{writesTo, rivalsOf, ownOf, writersOf, readersOf, finalsOf, padded, initialSlot}
 use Rattle.prepared.specs.Prepared.{leavingOf, rightOf, lastingOf, rivalMasks, ownMasks, writerMasks, rightMasks, lastingMasks}
-use Rattle.prepared.proofs.GatherLaws.{mask-below}
+use Rattle.masks.proofs.MaskOfLaws.{mask-below}
 use Rattle.prepared.proofs.PreparedLaws.{entry-of, right-reads, lasting-stated}
 use Rattle.prepared.proofs.LeavingLaws.{isWrite, slotOf, leaving-same}
 use Rattle.values.specs.QuickTest.{returnBy, breaksReadBy, valuesReadBy, breaksFinalBy, finalValuesBy}
