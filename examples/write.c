@@ -8,7 +8,8 @@
 
 #include <stdio.h>
 
-_Static_assert(sizeof(struct ct_table) == 676, "a table is passed by value, without padding");
+_Static_assert(sizeof(struct ct_event) == 24, "an event ends with two bytes of padding");
+_Static_assert(sizeof(struct ct_table) == 804, "a table is passed by value, with no other padding");
 
 enum kind { LOAD = 1, STORE = 2 };
 enum location { X, Y };

@@ -11,8 +11,9 @@
  *
  * The word
  * --------
- * All functions but ct_blocks answer by one word. Byte 0, the lowest, is the case; bytes that the table doesn't name are 0.
- * A set of rules is in bytes 4 and 5: bit r - 1, counted from the lowest of byte 4, is rule r, from 1 to 13.
+ * All functions but ct_table_of and ct_blocks answer by one word. Byte 0, the lowest, is the case; bytes that the table
+ * doesn't name are 0. A set of rules is in bytes 4 and 5: bit r - 1, counted from the lowest of byte 4, is rule r, from 1
+ * to 13.
  *
  *   case                   byte 1              byte 2                      byte 3        bytes 4 to 7
  *   0  good                -                   -                           -             ct_rules: set of rules
@@ -82,20 +83,36 @@ enum ct_case {
 /* Whether rule r, from 1 to 13, is in a set. */
 #define CT_HAS_RULE(rules, r) (((rules) >> ((r) - 1) & 1) == 1)
 
-/* An event of a table. Bit k of a mask (bit 0 lowest) names event k. */
-struct ct_event {
-    uint8_t kind;     /* 1 load, 2 store, 3 AMO, 4 LR, 5 SC, 6 fence, 7 fence.tso */
-    uint8_t hart;
-    uint8_t location;
-    uint8_t flags;    /* as in a block */
-    uint32_t addr;    /* mask of the events that the address depends on */
-    uint32_t data;    /* .. that the data depend on */
-    uint32_t ctrl;    /* .. that it has a control dependency on */
-    uint16_t read;    /* the value read, 0 if nothing reads */
-    uint16_t written; /* the value written, 0 if nothing writes */
+/* What an AMO makes of the value read and of its operand, both unsigned. */
+enum ct_operation {
+    CT_NO_OPERATION = 0, /* the value written is as stated */
+    CT_ADD = 1,          /* amoadd: the sum, modulo 65,536 */
+    CT_AND = 2,          /* amoand */
+    CT_OR = 3,           /* amoor */
+    CT_XOR = 4,          /* amoxor */
+    CT_LARGER = 5,       /* amomaxu */
+    CT_SMALLER = 6       /* amominu */
 };
 
-/* A test by value: 676 bytes without padding. What a test doesn't use is zero, slots past its events too. */
+/* An event of a table. Bit k of a mask (bit 0 lowest) names event k. */
+struct ct_event {
+    uint8_t kind;      /* 1 load, 2 store, 3 AMO, 4 LR, 5 SC, 6 fence, 7 fence.tso */
+    uint8_t hart;
+    uint8_t location;
+    uint8_t flags;     /* as in a block */
+    uint32_t addr;     /* mask of the events that the address depends on */
+    uint32_t data;     /* .. that the data depend on */
+    uint32_t ctrl;     /* .. that it has a control dependency on */
+    uint16_t read;     /* the value read, 0 if nothing reads */
+    uint16_t written;  /* the value written, 0 if nothing writes; with an operation what this makes of the value read */
+    uint8_t operation; /* of an AMO, enum ct_operation; 0 of other events */
+    uint8_t operand;   /* of the operation, 0 without one */
+};
+
+/*
+ * A test by value: 804 bytes, of which an event has 24. The last two of an event are padding, and may hold anything; what
+ * else a test doesn't use is zero, slots past its events too.
+ */
 struct ct_table {
     uint8_t harts;
     uint8_t locations;
@@ -108,6 +125,9 @@ struct ct_table {
 
 /* Reads a block. Case 0: the test is good. Case 1: refusal 1 to 11. */
 uint64_t ct_read(const uint8_t *block, size_t block_len);
+
+/* The table of a block: all zero if reading refuses it, which ct_read says. ct_write then gives the block back. */
+struct ct_table ct_table_of(const uint8_t *block, size_t block_len);
 
 /*
  * Writes the block of a table to `out`, which has CT_BLOCK bytes. Any numbers may stand in the table. Case 1: refusal 1 if

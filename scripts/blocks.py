@@ -4,10 +4,13 @@ import struct
 BLOCK, RECORD, RECORDS, INITIAL, FINALS, CHECKED = 512, 16, 32, 16, 288, 508
 EDITION, EDITION_AT = 1, 4
 FIELDS = ("addr", "data", "ctrl", "rval", "wval")
+# Of an AMO; 0 where an event doesn't name them.
+OPERATION = ("operation", "operand")
 
 
 def record(e):
-    return struct.pack("<4B5H", e["kind"], e["hart"], e["loc"], e["flags"], *(e[f] for f in FIELDS))
+    operation = (e.get(f, 0) for f in OPERATION)
+    return struct.pack("<4B5H2B", e["kind"], e["hart"], e["loc"], e["flags"], *(e[f] for f in FIELDS), *operation)
 
 
 def sealed(b):
@@ -25,8 +28,7 @@ def block(test):
     for x, v in enumerate(test["init"]):
         struct.pack_into("<H", b, INITIAL + 2 * x, v)
     for k, e in enumerate(test["events"]):
-        r = record(e)
-        b[RECORDS + RECORD * k:RECORDS + RECORD * k + len(r)] = r
+        b[RECORDS + RECORD * k:RECORDS + RECORD * (k + 1)] = record(e)
     for x, v in finals.items():
         struct.pack_into("<H", b, FINALS + 2 * x, v)
     return sealed(b)

@@ -53,6 +53,7 @@ pub enum Reply {
     Good,
     Refused { number: u8, record: Option<u8> },
     Broken(Axiom),
+    Table(Box<Table>),
     Rules(Rules),
     Searched(Answer),
     Blocks(u64),
@@ -99,7 +100,7 @@ impl Library {
     fn reply(&mut self, call: &Call) -> Reply {
         let block = self.block.lend(&call.block);
         match &call.entry {
-            Entry::Read => cogthunder::read(block).map_or_else(Reply::from, |()| Reply::Good),
+            Entry::Read => Table::of_block(block).map_or_else(Reply::from, |table| Reply::Table(Box::new(table))),
             Entry::Write { table, out } => {
                 cogthunder::write(&same_table(table), self.second.lend(out)).map_or_else(Reply::from, |()| Reply::Good)
             }
@@ -204,7 +205,8 @@ impl Bench for Reference {
 fn reference_reply(call: &Call, buffer: &mut [u8]) -> Reply {
     let block = &call.block;
     match &call.entry {
-        Entry::Read => oracle::table::read(block).map_or_else(Reply::from, |_| Reply::Good),
+        Entry::Read => oracle::table::read(block)
+            .map_or_else(Reply::from, |_| Reply::Table(Box::new(same_table(&RawTable::of_block(block))))),
         Entry::Write { table, .. } => oracle::raw::write(table, buffer).map_or_else(Reply::from, |()| Reply::Good),
         Entry::Verdict { returned, order } => match oracle::candidate::verdict(block, returned, order) {
             Err(refusal) => refusal.into(),
@@ -238,6 +240,7 @@ fn same_event(raw: RawEvent) -> Event {
     [event.kind, event.hart, event.location, event.flags] = [raw.kind, raw.hart, raw.location, raw.flags];
     [event.address, event.data, event.control] = [raw.address, raw.data, raw.control];
     [event.read, event.written] = [raw.read, raw.written];
+    [event.operation, event.operand] = [raw.operation, raw.operand];
     event
 }
 

@@ -339,6 +339,7 @@ fn suite(prng: &mut Prng, comparison: &mut Comparison) -> Result<(), Box<Differe
 #[cfg(test)]
 mod tests {
     use super::*;
+    use oracle::operation::Operation;
 
     /// Tables enough to meet what is asked for.
     const TABLES: usize = 1000;
@@ -350,6 +351,16 @@ mod tests {
         for flags in [ACQUIRE_RCPC, ACQUIRE_RCSC, RELEASE_RCPC, RELEASE_RCSC] {
             let is_met = |event: &Event| event.kind == Kind::Amo && event.flags == flags;
             assert!(tables.iter().any(|table| table.events.iter().any(is_met)), "{flags}");
+        }
+    }
+
+    #[test]
+    fn amos_have_each_operation_and_none() {
+        let mut prng = Prng::new(3);
+        let tables: Vec<Table> = (0..TABLES).map(|_| any_shape(&mut prng)).collect();
+        for operation in [&[Operation::None], &Operation::SOME[..]].concat() {
+            let is_met = |event: &Event| event.kind == Kind::Amo && event.operation == operation;
+            assert!(tables.iter().any(|table| table.events.iter().any(is_met)), "{operation:?}");
         }
     }
 

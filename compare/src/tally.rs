@@ -69,7 +69,7 @@ impl Tally {
             Reply::Rules(rules) => self.count_rules(*rules),
             Reply::Good if call.entry.name() == "verdict" => *self.verdicts.entry(VERDICTS[0]).or_default() += 1,
             Reply::Searched(answer) => *self.searches.entry(search_name(answer)).or_default() += 1,
-            Reply::Good | Reply::Blocks(_) | Reply::Witnesses { .. } => {}
+            Reply::Good | Reply::Table(_) | Reply::Blocks(_) | Reply::Witnesses { .. } => {}
         }
     }
 

@@ -1,4 +1,5 @@
-//! Random tables for the writer: good ones, ones with another number in one field, and buffers of any length.
+//! Random tables for the writer: good ones, ones with another number in one field or another operation, and buffers of any
+//! length.
 
 use crate::call::{Call, Entry, Outcome, Reply};
 use crate::cases::{any_fences, any_shape, some_bytes, LONGEST_BYTES, SOME_CALLS};
@@ -6,6 +7,7 @@ use crate::comparison::{Comparison, Difference};
 use oracle::encode::encode;
 use oracle::generate::prng::Prng;
 use oracle::layout::*;
+use oracle::operation::Operation;
 use oracle::raw::{RawEvent, RawTable, SLOTS};
 use oracle::table::Kind;
 
@@ -38,10 +40,10 @@ fn any_length(prng: &mut Prng) -> usize {
     *prng.pick(&[0, BLOCK_LENGTH - 1, BLOCK_LENGTH + 1, any])
 }
 
-/// Puts another number into one field of a good table.
+/// Puts another number into one field of a good table, or another operation into an AMO of it.
 fn damage(prng: &mut Prng, table: &mut RawTable) {
     let event = prng.below(table.count.into());
-    match prng.below(16) {
+    match prng.below(20) {
         0 => table.harts = any_byte(prng),
         1 => table.locations = any_byte(prng),
         2 => table.count = any_byte(prng),
@@ -52,12 +54,16 @@ fn damage(prng: &mut Prng, table: &mut RawTable) {
             let slot = prng.below(SLOTS);
             damage_event(prng, &mut table.events[slot]);
         }
+        7..=9 => {
+            let amo = table.events.iter().position(|event| event.kind == Kind::Amo as u8);
+            operate(prng, &mut table.events[amo.unwrap_or(event)]);
+        }
         _ => damage_event(prng, &mut table.events[event]),
     }
 }
 
 fn damage_event(prng: &mut Prng, event: &mut RawEvent) {
-    match prng.below(10) {
+    match prng.below(12) {
         0 => event.kind = any_byte(prng),
         1 => event.kind = *prng.pick(&Kind::ALL) as u8,
         2 => event.hart = any_byte(prng),
@@ -67,7 +73,23 @@ fn damage_event(prng: &mut Prng, event: &mut RawEvent) {
         6 => event.data = any_mask(prng),
         7 => event.control = any_mask(prng),
         8 => event.read = any_value(prng),
+        9 => event.operation = any_byte(prng),
+        10 => event.operand = any_byte(prng),
         _ => event.written = any_value(prng),
+    }
+}
+
+/// Gives an event any operation, operand and values; mostly the value written is right.
+fn operate(prng: &mut Prng, event: &mut RawEvent) {
+    let (value, operand) = (any_value(prng), prng.bits() as u8);
+    event.operation = prng.below(Operation::SOME.len() + 2) as u8;
+    event.operand = *prng.pick(&[0, 1, 255, operand]);
+    event.read = *prng.pick(&[0, 255, 256, 65535, value]);
+    let operation = Operation::from_number(event.operation);
+    let applied = operation.and_then(|operation| operation.applied(event.read, event.operand));
+    event.written = applied.unwrap_or(value);
+    if prng.one_in(4) {
+        event.written ^= 1 << prng.below(u16::BITS as usize);
     }
 }
 
@@ -107,12 +129,28 @@ mod tests {
     const ANNOTATIONS: [Annotation; 4] =
         [Annotation::AcquireRcpc, Annotation::AcquireRcsc, Annotation::ReleaseRcpc, Annotation::ReleaseRcsc];
 
+    fn same_operation(operation: Operation) -> Option<cogthunder::Operation> {
+        use cogthunder::Operation as Same;
+        Some(match operation {
+            Operation::None => return None,
+            Operation::Add => Same::Add,
+            Operation::And => Same::And,
+            Operation::Or => Same::Or,
+            Operation::Xor => Same::Xor,
+            Operation::Larger => Same::Larger,
+            Operation::Smaller => Same::Smaller,
+        })
+    }
+
     fn add(built: &mut cogthunder::Table, event: &Event) -> u8 {
         let (hart, location) = (event.hart as u8, event.location as u8);
         match event.kind {
             Kind::Load => built.load(hart, location, event.read),
             Kind::Store => built.store(hart, location, event.written),
-            Kind::Amo => built.amo(hart, location, event.read, event.written),
+            Kind::Amo => match same_operation(event.operation) {
+                None => built.amo(hart, location, event.read, event.written),
+                Some(operation) => built.amo_with(hart, location, event.read, operation, event.operand),
+            },
             Kind::Lr => built.lr(hart, location, event.read),
             Kind::Sc => built.sc(hart, location, event.written),
             Kind::Fence => {

@@ -154,6 +154,18 @@ mod tests {
     }
 
     #[test]
+    fn of_two_adds_to_a_counter_the_second_reads_what_the_first_wrote() {
+        assert_eq!(judge(&counter(), &[INITIAL, 0], &[0, 1]), None);
+        let broken = Axiom::ValueRead { reader: 0 };
+        assert_eq!(judge(&counter(), &[1, INITIAL], &[1, 0]), Some(broken.clone()));
+        assert_eq!(judge(&counter_lost(), &[1, INITIAL], &[1, 0]), Some(broken));
+        let broken = Axiom::ValueRead { reader: 1 };
+        assert_eq!(judge(&counter_lost(), &[INITIAL, 0], &[0, 1]), Some(broken));
+        let broken = Axiom::LoadValue { reader: 1 };
+        assert_eq!(judge(&counter_lost(), &[INITIAL, INITIAL], &[0, 1]), Some(broken));
+    }
+
+    #[test]
     fn rule_2_compares_writes_and_not_values() {
         let mut test = table(vec![load(0, X, 1), load(0, X, 1), store(1, X, 1)]);
         test.initial[X] = 1;

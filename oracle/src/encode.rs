@@ -32,6 +32,8 @@ fn put_event(record: &mut [u8], event: &Event) {
     put_word(record, field::CONTROL, event.control as u16);
     put_word(record, field::READ, event.read);
     put_word(record, field::WRITTEN, event.written);
+    record[field::OPERATION] = event.operation as u8;
+    record[field::OPERAND] = event.operand;
 }
 
 fn put_word(bytes: &mut [u8], at: usize, value: u16) {

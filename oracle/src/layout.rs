@@ -42,7 +42,9 @@ pub mod field {
     pub const CONTROL: usize = 8;
     pub const READ: usize = 10;
     pub const WRITTEN: usize = 12;
-    pub const ZEROS: std::ops::Range<usize> = 14..16;
+    /// "Record bytes 14 and 15 become an operation and an operand"
+    pub const OPERATION: usize = 14;
+    pub const OPERAND: usize = 15;
 }
 
 /// "16..31: initial values, two bytes a location"

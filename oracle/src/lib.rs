@@ -6,6 +6,7 @@ pub mod encode;
 pub mod generate;
 pub mod layout;
 pub mod litmus;
+pub mod operation;
 pub mod raw;
 pub mod readings;
 pub mod rules;

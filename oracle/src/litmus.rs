@@ -1,6 +1,7 @@
-//! Tables built event by event, and the paper's litmus tests C1 to C10.
+//! Tables built event by event; the paper's litmus tests C1 to C10, and tests of AMOs.
 
 use crate::layout::MAX_LOCATIONS;
+use crate::operation::Operation;
 use crate::table::{
     Event, Kind, Table, ACQUIRE_RCPC, ACQUIRE_RCSC, PR, PW, RELEASE_RCPC, RELEASE_RCSC, SR, SW,
 };
@@ -14,7 +15,19 @@ pub const Z: usize = 2;
 pub const FULL: u8 = PR | PW | SR | SW;
 
 fn event(kind: Kind, hart: usize, location: usize, read: u16, written: u16) -> Event {
-    Event { kind, hart, location, flags: 0, address: 0, data: 0, control: 0, read, written }
+    Event {
+        kind,
+        hart,
+        location,
+        flags: 0,
+        address: 0,
+        data: 0,
+        control: 0,
+        read,
+        written,
+        operation: Operation::None,
+        operand: 0,
+    }
 }
 
 pub fn load(hart: usize, location: usize, read: u16) -> Event {
@@ -27,6 +40,18 @@ pub fn store(hart: usize, location: usize, written: u16) -> Event {
 
 pub fn amo(hart: usize, location: usize, read: u16, written: u16) -> Event {
     event(Kind::Amo, hart, location, read, written)
+}
+
+/// An AMO that writes what its operation makes of the value read.
+pub fn amo_with(
+    hart: usize,
+    location: usize,
+    read: u16,
+    operation: Operation,
+    operand: u8,
+) -> Event {
+    let written = operation.applied(read, operand).expect("the AMO has an operation");
+    amo(hart, location, read, written).operation(operation, operand)
 }
 
 pub fn lr(hart: usize, location: usize, read: u16) -> Event {
@@ -49,6 +74,10 @@ pub fn fence_tso(hart: usize) -> Event {
 impl Event {
     pub fn flags(self, flags: u8) -> Event {
         Event { flags, ..self }
+    }
+
+    pub fn operation(self, operation: Operation, operand: u8) -> Event {
+        Event { operation, operand, ..self }
     }
 
     pub fn address_from(self, source: usize) -> Event {
@@ -164,6 +193,26 @@ pub fn releasing_amos() -> Vec<(&'static str, Table)> {
         ("amo-stores-release-rcsc", amo_stores(RELEASE_RCSC)),
         ("amo-stores", amo_stores(0)),
     ]
+}
+
+/// An AMO that adds 1 to x.
+fn increment(hart: usize, read: u16, written: u16) -> Event {
+    amo(hart, X, read, written).operation(Operation::Add, 1)
+}
+
+/// Two harts add 1 to a counter, and the second reads what the first wrote.
+pub fn counter() -> Table {
+    table(vec![increment(0, 0, 1), increment(1, 1, 2)]).with_final(X, 2)
+}
+
+/// Both read the counter's initial value, so that one addition is lost.
+pub fn counter_lost() -> Table {
+    table(vec![increment(0, 0, 1), increment(1, 0, 1)]).with_final(X, 1)
+}
+
+/// Two harts at a counter.
+pub fn counters() -> Vec<(&'static str, Table)> {
+    vec![("counter", counter()), ("counter-lost", counter_lost())]
 }
 
 /// Every litmus test of the paper, in its order.

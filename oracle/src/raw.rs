@@ -3,6 +3,7 @@
 
 use crate::encode::encode;
 use crate::layout::*;
+use crate::operation::Operation;
 use crate::stream::{Malformed, Stream};
 use crate::table::{
     fields_broken, names_location, refuse_if, refuse_table, Event, Kind, Line, Refusal, Table,
@@ -22,6 +23,8 @@ pub struct RawEvent {
     pub control: u32,
     pub read: u16,
     pub written: u16,
+    pub operation: u8,
+    pub operand: u8,
 }
 
 #[derive(Clone, PartialEq, Eq, Debug)]
@@ -54,7 +57,7 @@ impl RawTable {
         }
     }
 
-    /// The fields in their order, as a struct of C without padding holds them.
+    /// The fields in their order, without the padding that a struct of C has.
     pub fn push_to(&self, stream: &mut Vec<u8>) {
         stream.extend([self.harts, self.locations, self.count, self.stated]);
         stream.extend(self.initial.iter().flat_map(|value| value.to_le_bytes()));
@@ -63,6 +66,7 @@ impl RawTable {
             let masks = [event.address, event.data, event.control];
             stream.extend(masks.iter().flat_map(|mask| mask.to_le_bytes()));
             stream.extend([event.read, event.written].iter().flat_map(|v| v.to_le_bytes()));
+            stream.extend([event.operation, event.operand]);
         }
         stream.extend(self.finals.iter().flat_map(|value| value.to_le_bytes()));
     }
@@ -93,18 +97,28 @@ impl RawEvent {
             control: word(record, field::CONTROL).into(),
             read: word(record, field::READ),
             written: word(record, field::WRITTEN),
+            operation: record[field::OPERATION],
+            operand: record[field::OPERAND],
         }
     }
 
     fn take_from(stream: &mut Stream) -> Result<RawEvent, Malformed> {
-        let [kind, hart, location, flags] =
-            [stream.byte()?, stream.byte()?, stream.byte()?, stream.byte()?];
-        let [address, data, control] = [stream.mask()?, stream.mask()?, stream.mask()?];
-        let [read, written] = [stream.word()?, stream.word()?];
-        Ok(RawEvent { kind, hart, location, flags, address, data, control, read, written })
+        Ok(RawEvent {
+            kind: stream.byte()?,
+            hart: stream.byte()?,
+            location: stream.byte()?,
+            flags: stream.byte()?,
+            address: stream.mask()?,
+            data: stream.mask()?,
+            control: stream.mask()?,
+            read: stream.word()?,
+            written: stream.word()?,
+            operation: stream.byte()?,
+            operand: stream.byte()?,
+        })
     }
 
-    /// The event, or none if its kind is out of range.
+    /// The event, or none if its kind or its operation is out of range.
     fn typed(&self) -> Option<Event> {
         Some(Event {
             kind: Kind::from_number(self.kind)?,
@@ -116,6 +130,8 @@ impl RawEvent {
             control: self.control,
             read: self.read,
             written: self.written,
+            operation: Operation::from_number(self.operation)?,
+            operand: self.operand,
         })
     }
 }
@@ -185,7 +201,7 @@ mod tests {
 
     #[test]
     fn what_was_written_is_read_back() {
-        for (_, test) in litmus::all() {
+        for (_, test) in [litmus::all(), litmus::counters()].concat() {
             let mut block = [0xEE; BLOCK_LENGTH];
             assert_eq!(write(&RawTable::of_block(&encode(&test)), &mut block), Ok(()));
             assert_eq!(read(&block), Ok(test));
@@ -193,11 +209,11 @@ mod tests {
     }
 
     #[test]
-    fn a_table_is_streamed_in_676_bytes() {
-        let table = RawTable::of_block(&encode(&litmus::c1()));
+    fn a_table_is_streamed_in_740_bytes() {
+        let table = RawTable::of_block(&encode(&litmus::counter()));
         let mut stream = Vec::new();
         table.push_to(&mut stream);
-        assert_eq!(stream.len(), 676);
+        assert_eq!(stream.len(), 740);
         assert_eq!(RawTable::take_from(&mut Stream::new(&stream)).unwrap(), table);
     }
 }

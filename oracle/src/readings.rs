@@ -31,9 +31,11 @@ fn table_line(table: &Table) -> String {
 }
 
 fn event_part(event: &Event) -> String {
-    let Event { kind, hart, location, flags, address, data, control, read, written } = event;
-    let kind = *kind as u8;
-    format!("{kind} {hart} {location} {flags} {address} {data} {control} {read} {written}")
+    let Event { kind, hart, location, flags, address, data, control, .. } = event;
+    let Event { read, written, operation, operand, .. } = event;
+    let (kind, operation) = (*kind as u8, *operation as u8);
+    let masks = spaced(&[address, data, control]);
+    format!("{kind} {hart} {location} {flags} {masks} {read} {written} {operation} {operand}")
 }
 
 /// Numbers with single spaces between them.

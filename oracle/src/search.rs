@@ -246,6 +246,16 @@ mod tests {
         assert_eq!(run(&amo_stores(0), &[3, 1, 2, 0], MAX_ALLOWANCE), none_left(5));
     }
 
+    /// The prefixes are 0, 01, 1, 10. In 01 event 1 reads what event 0 wrote, in 10 it is the
+    /// other way round.
+    #[test]
+    fn a_counter_loses_no_update() {
+        assert_eq!(witnesses(&counter()), [[0, 1]]);
+        assert_eq!(run(&counter(), &[], MAX_ALLOWANCE), found(2, &[0, 1]));
+        assert_eq!(run(&counter(), &[0, 1], MAX_ALLOWANCE), none_left(2));
+        assert_eq!(run(&counter_lost(), &[], MAX_ALLOWANCE), none_left(4));
+    }
+
     #[test]
     fn the_papers_edges() {
         assert_eq!(run(&c1(), &[], 26), spent(26, &[1, 2, 3]));

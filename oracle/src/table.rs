@@ -1,6 +1,7 @@
 //! A test read from a block, and the lines 1 to 11 by which reading refuses one.
 
 use crate::layout::*;
+use crate::operation::Operation;
 use std::fmt;
 
 /// "Kinds: 1 load, 2 store, 3 AMO, 4 LR, 5 SC, 6 fence, 7 fence.tso."
@@ -53,6 +54,8 @@ pub struct Event {
     pub control: u32,
     pub read: u16,
     pub written: u16,
+    pub operation: Operation,
+    pub operand: u8,
 }
 
 impl Event {
@@ -229,7 +232,6 @@ fn zeros_broken(block: &[u8]) -> bool {
     let (_, locations, events) = counts(block);
     let unstated = |l: &usize| !names_location(block[STATED_AT], *l);
     let mut zeros: Vec<usize> = HEADER_ZEROS.chain(TAIL_ZEROS).collect();
-    zeros.extend((0..MAX_EVENTS).flat_map(|e| field::ZEROS.map(move |at| record_at(e) + at)));
     zeros.extend(initial_at(locations)..initial_at(MAX_LOCATIONS));
     zeros.extend((0..MAX_LOCATIONS).filter(unstated).flat_map(|l| final_at(l)..final_at(l + 1)));
     zeros.extend(record_at(events)..record_at(MAX_EVENTS));
@@ -255,7 +257,7 @@ fn decode(block: &[u8]) -> Result<Table, Refusal> {
     Ok(table)
 }
 
-/// The event of a record, or none if its kind is out of range.
+/// The event of a record, or none if its kind or its operation is out of range.
 fn decode_event(record: &[u8]) -> Option<Event> {
     Some(Event {
         kind: Kind::from_number(record[field::KIND])?,
@@ -267,12 +269,14 @@ fn decode_event(record: &[u8]) -> Option<Event> {
         control: word(record, field::CONTROL).into(),
         read: word(record, field::READ),
         written: word(record, field::WRITTEN),
+        operation: Operation::from_number(record[field::OPERATION])?,
+        operand: record[field::OPERAND],
     })
 }
 
-/// 7, but for the kind: "hart, location or flags out of range; a non-reader with a value
-/// read or a non-writer with a value written that isn't zero; a fence with location or mask
-/// not zero; flags on fence.tso"
+/// 7, but for a kind out of range and "an operation above 6": "hart, location or flags out of
+/// range; a non-reader with a value read or a non-writer with a value written that isn't zero;
+/// a fence with location or mask not zero; flags on fence.tso"; and what is said of operations.
 pub fn fields_broken(table: &Table, event: &Event) -> bool {
     let out_of_range =
         event.hart >= table.harts || event.location >= table.locations || event.flags > ALL_FLAGS;
@@ -282,6 +286,17 @@ pub fn fields_broken(table: &Table, event: &Event) -> bool {
         || !event.writes() && event.written != 0
         || event.is_fence() && (event.location != 0 || has_masks)
         || event.kind == Kind::FenceTso && event.flags != 0
+        || operation_broken(event)
+}
+
+/// 7, of operations: "Only an AMO may have an operation. With one, the written value must be the
+/// operation applied to the value read. .. an operand without an operation, an operation on
+/// another kind, a wrong written value"
+fn operation_broken(event: &Event) -> bool {
+    match event.operation.applied(event.read, event.operand) {
+        None => event.operand != 0,
+        Some(written) => event.kind != Kind::Amo || event.written != written,
+    }
 }
 
 /// 8: "both acquires or both releases at once"; a load or LR "with release and no acquire"; "a
@@ -403,8 +418,76 @@ mod tests {
 
     #[test]
     fn bytes_named_zero_are_zero() {
-        for at in [9, 15, 304, 507, initial_at(2), final_at(0), record_at(4), record_at(0) + 14] {
-            assert_eq!(read(&c1_with(at, 1)), refused(Line::Zeros));
+        let past = record_at(4);
+        let values = [initial_at(2), final_at(0)];
+        let records = [past, past + field::OPERATION, past + field::OPERAND];
+        for at in [&[9, 15, 304, 507], &values[..], &records].concat() {
+            assert_eq!(read(&c1_with(at, 1)), refused(Line::Zeros), "{at}");
+        }
+    }
+
+    #[test]
+    fn an_operation_goes_from_0_to_6() {
+        for operation in Operation::SOME {
+            assert!(read_events(vec![amo_with(0, X, 7, operation, 9)]).is_ok());
+        }
+        let mut block = encode(&table(vec![load(0, X, 0), amo(0, X, 0, 0)]));
+        for above in [7, 8, 128, 255] {
+            block[record_at(1) + field::OPERATION] = above;
+            seal(&mut block);
+            assert_eq!(read(&block), refused_at(Line::Fields, 1), "{above}");
+        }
+    }
+
+    /// One event of each kind; an SC follows its LR.
+    fn each_kind() -> Vec<Event> {
+        let accesses = vec![load(0, X, 0), store(0, X, 0), amo(0, X, 0, 0), lr(0, X, 0)];
+        [accesses, vec![sc(0, X, 0), fence(0, FULL), fence_tso(0)]].concat()
+    }
+
+    #[test]
+    fn only_an_amo_may_have_an_operation() {
+        assert!(read_events(each_kind()).is_ok());
+        for record in 0..each_kind().len() {
+            let mut events = each_kind();
+            events[record].operation = Operation::Add;
+            let is_amo = events[record].kind == Kind::Amo;
+            let expected =
+                if is_amo { Ok(table(events.clone())) } else { refused_at(Line::Fields, record) };
+            assert_eq!(read_events(events), expected);
+        }
+    }
+
+    #[test]
+    fn an_operand_needs_an_operation_whatever_the_kind() {
+        for record in 0..each_kind().len() {
+            for operand in [1, 128, 255] {
+                let mut events = each_kind();
+                events[record].operand = operand;
+                assert_eq!(read_events(events), refused_at(Line::Fields, record));
+            }
+        }
+    }
+
+    #[test]
+    fn the_written_value_is_the_operation_applied_to_the_value_read() {
+        for operation in Operation::SOME {
+            for (read, operand) in [(0, 0), (65535, 1), (0x1234, 255), (255, 255)] {
+                let right = amo_with(0, X, read, operation, operand);
+                for wrong in [right.written ^ 1, right.written ^ 256, right.written ^ 65535] {
+                    let amo = amo(0, X, read, wrong).operation(operation, operand);
+                    let events = vec![load(0, X, 0), amo];
+                    assert_eq!(read_events(events), refused_at(Line::Fields, 1));
+                }
+                assert!(read_events(vec![load(0, X, 0), right]).is_ok());
+            }
+        }
+    }
+
+    #[test]
+    fn without_an_operation_an_amo_writes_any_value() {
+        for written in [0, 1, 65535] {
+            assert!(read_events(vec![amo(0, X, 7, written)]).is_ok());
         }
     }
 

@@ -4,6 +4,8 @@
 //!     load HART LOCATION READ             store HART LOCATION WRITTEN
 //!     lr HART LOCATION READ               sc HART LOCATION WRITTEN
 //!     amo HART LOCATION READ WRITTEN
+//!     amo HART LOCATION READ OPERATION OPERAND
+//!                                         an operation is add, and, or, xor, larger or smaller
 //!     fence HART BEFORE AFTER             as in `fence rw, w`: none, r, w or rw
 //!     fence.tso HART
 //!     annotate EVENT ANNOTATION           acquire-rcpc, acquire-rcsc, release-rcpc or release-rcsc
@@ -12,7 +14,7 @@
 //!
 //!     cargo run --offline --example blocks <TABLES >SUITE
 
-use cogthunder::{Accesses, Annotation, Table};
+use cogthunder::{Accesses, Annotation, Operation, Table};
 use std::error::Error;
 use std::io::{self, Write};
 use std::process::ExitCode;
@@ -66,6 +68,9 @@ fn add_event(table: &mut Table, words: &[&str]) -> Option<u8> {
         ["amo", hart, location, read, written] => {
             table.amo(number(hart)?, number(location)?, number(read)?, number(written)?)
         }
+        ["amo", hart, location, read, word, operand] => {
+            table.amo_with(number(hart)?, number(location)?, number(read)?, operation(word)?, number(operand)?)
+        }
         ["fence", hart, before, after] => table.fence(number(hart)?, accesses(before)?, accesses(after)?),
         ["fence.tso", hart] => table.fence_tso(number(hart)?),
         _ => return None,
@@ -88,6 +93,18 @@ fn say(table: &mut Table, words: &[&str]) -> Option<()> {
 
 fn number<T: FromStr>(word: &str) -> Option<T> {
     word.parse().ok()
+}
+
+fn operation(word: &str) -> Option<Operation> {
+    Some(match word {
+        "add" => Operation::Add,
+        "and" => Operation::And,
+        "or" => Operation::Or,
+        "xor" => Operation::Xor,
+        "larger" => Operation::Larger,
+        "smaller" => Operation::Smaller,
+        _ => return None,
+    })
 }
 
 fn accesses(word: &str) -> Option<Accesses> {

@@ -32,12 +32,14 @@
 
 mod answers;
 mod library;
+mod operation;
 mod rules;
 mod table;
 mod witnesses;
 
 pub use answers::{Answer, Axiom, Refusal, Verdict};
 pub use library::{blocks, read, returns, rules, search, verdict, write};
+pub use operation::Operation;
 pub use rules::Rules;
 pub use table::{Accesses, Annotation, Event, Table};
 pub use witnesses::Witnesses;

@@ -2,10 +2,12 @@
 
 use crate::answers::{Answer, Axiom, Refusal, Verdict};
 use crate::rules::Rules;
-use crate::table::Table;
+use crate::table::{Event, Table};
 
 extern "C" {
     fn ct_read(block: *const u8, block_len: usize) -> u64;
+
+    fn ct_table_of(block: *const u8, block_len: usize) -> Table;
 
     fn ct_write(table: Table, out: *mut u8, out_len: usize) -> u64;
 
@@ -42,8 +44,8 @@ extern "C" {
     fn ct_blocks(suite: *const u8, suite_len: usize) -> u64;
 }
 
-/// A table is passed by value: its fields without padding, as in the C header.
-const _: () = assert!(size_of::<Table>() == 676);
+/// A table is passed by value: an event ends with two bytes of padding, and there is no other, as in the C header.
+const _: () = assert!(size_of::<Event>() == 24 && size_of::<Table>() == 804);
 
 /// Byte 0 of a word.
 const GOOD: u8 = 0;
@@ -91,6 +93,11 @@ pub fn read(block: &[u8]) -> Result<(), Refusal> {
     // to this call alone.
     let word = unsafe { ct_read(block.as_ptr(), block.len()) };
     parts(word).map(|_| ())
+}
+
+/// The table of a block; blank if reading refuses it.
+pub(crate) fn table_of(block: &[u8]) -> Table {
+    unsafe { ct_table_of(block.as_ptr(), block.len()) }
 }
 
 /// Writes the block of a table to `out`, which has [`BLOCK`](crate::BLOCK) bytes. It is refused by 1 if `out` has another

@@ -1,7 +1,8 @@
 //! A test by value, and the functions that build one.
 
 use crate::answers::Refusal;
-use crate::library::write;
+use crate::library::{read, table_of, write};
+use crate::operation::Operation;
 use crate::BLOCK;
 
 /// How many locations a table has values for.
@@ -51,8 +52,12 @@ pub struct Event {
     pub control: u32,
     /// The value read; 0 if it doesn't read.
     pub read: u16,
-    /// The value written; 0 if it doesn't write.
+    /// The value written; 0 if it doesn't write. That of an AMO with an operation is what this makes of the value read.
     pub written: u16,
+    /// The number of an AMO's [`Operation`]; 0 if it has none, and for other events.
+    pub operation: u8,
+    /// The operand of the operation; 0 without one.
+    pub operand: u8,
 }
 
 /// A test by value: its fields, and functions that fill them in.
@@ -156,9 +161,35 @@ impl Table {
         self.add(STORE, hart, location, 0, written)
     }
 
-    /// Adds an AMO.
+    /// Adds an AMO without an operation: it writes the value that is stated.
     pub fn amo(&mut self, hart: u8, location: u8, read: u16, written: u16) -> u8 {
         self.add(AMO, hart, location, read, written)
+    }
+
+    /// Adds an AMO with an operation: it writes what the operation makes of the value read and of the operand.
+    ///
+    /// Two harts add 1 to a counter. One of them reads what the other wrote; that both read 0 is forbidden:
+    ///
+    /// ```
+    /// use cogthunder::{Operation, Table, Witnesses};
+    ///
+    /// let mut table = Table::new(2, 1);
+    /// table.amo_with(0, 0, 0, Operation::Add, 1);
+    /// table.amo_with(1, 0, 1, Operation::Add, 1);
+    /// table.final_value(0, 2);
+    /// assert_eq!(Witnesses::of(&table.block()?)?.next(), Some(vec![0, 1]));
+    ///
+    /// let mut lost = Table::new(2, 1);
+    /// lost.amo_with(0, 0, 0, Operation::Add, 1);
+    /// lost.amo_with(1, 0, 0, Operation::Add, 1);
+    /// assert_eq!(Witnesses::of(&lost.block()?)?.next(), None);
+    /// # Ok::<(), cogthunder::Refusal>(())
+    /// ```
+    pub fn amo_with(&mut self, hart: u8, location: u8, read: u16, operation: Operation, operand: u8) -> u8 {
+        let amo = self.amo(hart, location, read, operation.apply(read, operand));
+        let event = self.slot(amo);
+        [event.operation, event.operand] = [operation as u8, operand];
+        amo
     }
 
     /// Adds a load-reserved.
@@ -252,7 +283,29 @@ impl Table {
     }
 }
 
+/// A table and its block.
 impl Table {
+    /// The table of a block. It is refused by 1 to 11.
+    ///
+    /// ```
+    /// use cogthunder::{Operation, Table};
+    ///
+    /// let block = include_bytes!(concat!(env!("CARGO_MANIFEST_DIR"), "/../samples/counter.block"));
+    /// let mut table = Table::of_block(block)?;
+    /// assert_eq!(table.events[1].operation, Operation::Add as u8);
+    /// assert_eq!(table.block()?, *block);
+    ///
+    /// // The second hart writes another value than the sum.
+    /// table.events[1].written = 1;
+    /// let refusal = table.block().unwrap_err();
+    /// assert_eq!((refusal.number, refusal.record), (7, Some(1)));
+    /// # Ok::<(), cogthunder::Refusal>(())
+    /// ```
+    pub fn of_block(block: &[u8]) -> Result<Table, Refusal> {
+        read(block)?;
+        Ok(table_of(block))
+    }
+
     /// The block of the table, of which there is only one; [`read`](crate::read) accepts it. It is refused by 5 to 11.
     pub fn block(&self) -> Result<[u8; BLOCK], Refusal> {
         let mut block = [0; BLOCK];
@@ -270,7 +323,7 @@ fn bit(event: u8) -> u32 {
 #[cfg(test)]
 mod tests {
     use super::*;
-    use crate::{read, Witnesses};
+    use crate::Witnesses;
 
     const X: u8 = 0;
     const Y: u8 = 1;
@@ -299,7 +352,7 @@ mod tests {
     #[test]
     fn a_good_table_is_written_read_and_searched() {
         let block = table().block().expect("the table is good");
-        assert_eq!(read(&block), Ok(()));
+        assert_eq!(Table::of_block(&block), Ok(table()));
         assert!(Witnesses::of(&block).expect("the block is good").next().is_some());
     }
 
@@ -329,6 +382,50 @@ mod tests {
         assert_eq!(refused(|t| t.events[3].kind = 77), (7, Some(3)));
         assert_eq!(refused(|t| t.events[5].written = 1), (7, Some(5)));
         assert_eq!(refused(|t| t.events[5].flags = 16), (7, Some(5)));
+    }
+
+    #[test]
+    fn an_operation_writes_what_it_makes_of_the_value_read() {
+        let amos = [
+            (Operation::Add, 65_535, 1, 0),
+            (Operation::Add, 65_535, 255, 254),
+            (Operation::And, 0x1234, 255, 0x34),
+            (Operation::Or, 0x1200, 255, 0x12FF),
+            (Operation::Xor, 65_535, 255, 65_280),
+            (Operation::Larger, 254, 255, 255),
+            (Operation::Larger, 65_535, 255, 65_535),
+            (Operation::Smaller, 256, 255, 255),
+            (Operation::Smaller, 65_535, 0, 0),
+        ];
+        let mut table = Table::new(1, 1);
+        for (operation, read, operand, written) in amos {
+            let amo = table.amo_with(0, X, read, operation, operand);
+            assert_eq!(table.slot(amo).written, written, "{operation:?} {read} {operand}");
+        }
+        assert_eq!(table.block().and_then(|block| read(&block)), Ok(()));
+    }
+
+    #[test]
+    fn what_an_operation_cannot_be_is_refused() {
+        let with = |t: &mut Table, change: fn(&mut Event)| {
+            let amo = t.amo_with(1, Y, 0x1234, Operation::And, 255);
+            change(t.slot(amo));
+        };
+        assert_eq!(refused(|t| with(t, |amo| amo.operation = 7)), (7, Some(7)));
+        assert_eq!(refused(|t| with(t, |amo| amo.operation = 0)), (7, Some(7)));
+        assert_eq!(refused(|t| with(t, |amo| amo.operand = 4)), (7, Some(7)));
+        assert_eq!(refused(|t| with(t, |amo| amo.read = 0)), (7, Some(7)));
+        assert_eq!(refused(|t| with(t, |amo| amo.written = 0x1234)), (7, Some(7)));
+        assert_eq!(refused(|t| t.amo_with(9, Y, 0, Operation::Or, 1)), (7, Some(7)));
+        // Every event but the AMO.
+        for event in [0, 1, 3, 4, 5, 6] {
+            assert_eq!(refused(|t| t.slot(event).operation = Operation::Add as u8), (7, Some(event)));
+        }
+        for event in 0..7 {
+            assert_eq!(refused(|t| t.slot(event).operand = 1), (7, Some(event)));
+        }
+        assert_eq!(refused(|t| t.slot(7).operation = Operation::Add as u8), (6, None));
+        assert_eq!(refused(|t| t.slot(31).operand = 1), (6, None));
     }
 
     #[test]

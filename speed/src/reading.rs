@@ -3,8 +3,6 @@
 use crate::rules::{ACQUIRE, RELEASE};
 use crate::table::*;
 
-/// Where a record has bytes that are zero.
-const RECORD_ZEROS: std::ops::Range<usize> = 14..16;
 const HEADER_ZEROS: std::ops::Range<usize> = 9..16;
 const TAIL_ZEROS: std::ops::Range<usize> = 304..508;
 const ALL_FLAGS: u8 = 15;
@@ -68,7 +66,6 @@ fn has_zeros(block: &[u8; BLOCK]) -> bool {
         && is_zero(&block[TAIL_ZEROS])
         && is_zero(&block[INITIAL_AT + 2 * locations..RECORDS_AT])
         && is_zero(&records[RECORD * count..])
-        && records.chunks(RECORD).all(|record| is_zero(&record[RECORD_ZEROS]))
         && (0..LOCATIONS).all(|x| is_stated(x) || number(block, FINALS_AT + 2 * x) == 0)
 }
 
@@ -88,6 +85,8 @@ fn decode_event(record: &[u8]) -> Event {
         ctrl: value(2),
         read: value(3),
         written: value(4),
+        operation: record[OPERATION_AT],
+        operand: record[OPERAND_AT],
     }
 }
 
@@ -116,6 +115,22 @@ fn fields_broken(e: &Event, harts: u8, locations: u8) -> bool {
         || !e.writes() && e.written != 0
         || !e.is_memory() && has_place
         || e.kind == FENCE_TSO && e.flags != 0
+        || operation_broken(e)
+}
+
+fn operation_broken(e: &Event) -> bool {
+    let operand = u16::from(e.operand);
+    let written = match e.operation {
+        NO_OPERATION => return operand != 0,
+        ADD => e.read.wrapping_add(operand),
+        AND => e.read & operand,
+        OR => e.read | operand,
+        XOR => e.read ^ operand,
+        LARGER => e.read.max(operand),
+        SMALLER => e.read.min(operand),
+        _ => return true,
+    };
+    e.kind != AMO || e.written != written
 }
 
 fn annotations_broken(e: &Event) -> bool {
@@ -204,6 +219,7 @@ mod tests {
             assert_eq!((e.kind, e.hart, e.location, e.flags), bytes);
             assert_eq!([e.addr, e.data, e.ctrl].map(u32::from), [f.address, f.data, f.control]);
             assert_eq!([e.read, e.written], [f.read, f.written]);
+            assert_eq!([e.operation, e.operand], [f.operation as u8, f.operand]);
         }
     }
 

@@ -15,6 +15,9 @@ pub const STATED_AT: usize = 8;
 pub const INITIAL_AT: usize = 16;
 pub const RECORDS_AT: usize = 32;
 pub const RECORD: usize = 16;
+/// Within a record.
+pub const OPERATION_AT: usize = 14;
+pub const OPERAND_AT: usize = 15;
 pub const FINALS_AT: usize = 288;
 pub const CHECK_AT: usize = 508;
 
@@ -25,6 +28,15 @@ pub const LR: u8 = 4;
 pub const SC: u8 = 5;
 pub const FENCE: u8 = 6;
 pub const FENCE_TSO: u8 = 7;
+
+/// The operations of AMOs.
+pub const NO_OPERATION: u8 = 0;
+pub const ADD: u8 = 1;
+pub const AND: u8 = 2;
+pub const OR: u8 = 3;
+pub const XOR: u8 = 4;
+pub const LARGER: u8 = 5;
+pub const SMALLER: u8 = 6;
 
 #[derive(Clone, Copy, Default)]
 pub struct Event {
@@ -37,6 +49,8 @@ pub struct Event {
     pub ctrl: u16,
     pub read: u16,
     pub written: u16,
+    pub operation: u8,
+    pub operand: u8,
 }
 
 #[derive(Clone, Default)]
@@ -76,6 +90,8 @@ fn encode_event(e: &Event, record: &mut [u8]) {
     for (k, value) in [e.addr, e.data, e.ctrl, e.read, e.written].into_iter().enumerate() {
         put(record, 4 + 2 * k, value);
     }
+    record[OPERATION_AT] = e.operation;
+    record[OPERAND_AT] = e.operand;
 }
 
 impl Table {

@@ -4,8 +4,7 @@ use mathlib.Core.Bool.{Bool, _||_, not}
 use mathlib.Core.List.{List}
 use lib.Dec.{eqb}
 use Rattle.lists.specs.Below.{some}
-use Rattle.edition.specs.Limits.{maxEvents}
-use Rattle.decode.specs.Layout.{byteAt, recordAt}
+use Rattle.decode.specs.Layout.{byteAt}
 
 -- byte at + i isn't zero
 unfoldable pub notZero : List ℕ → ℕ → ℕ → Bool
@@ -23,10 +22,6 @@ headerZeros s = someNotZero s 9 7
 abbrev pub tailZeros : List ℕ → Bool
 tailZeros s = someNotZero s 304 204
 
--- "Record: .. 14..15 zero", of record k
-unfoldable pub recordZeros : List ℕ → ℕ → Bool
-recordZeros s k = someNotZero s (recordAt k + 14) 2
-
 -- 6, of the bytes: "a byte named zero isn't zero"
 unfoldable pub bytesNotZero : List ℕ → Bool
-bytesNotZero s = headerZeros s || tailZeros s || some maxEvents (recordZeros s)
+bytesNotZero s = headerZeros s || tailZeros s

@@ -10,7 +10,7 @@ ghost use Prim.Native.Nat.{_^_, _<_};
 ghost use mathlib.Core.Path.{_≡_};
 ghost use lib.ListN.{length, take};
 ghost use Rattle.refusals.specs.Refusals.{refusalOf};
-ghost use Rattle.block.specs.Reading.{readRefusal};
+ghost use Rattle.block.specs.Reading.{readRefusal, readTable};
 ghost use Rattle.writer.specs.Writing.{writeRefusal, writtenBlock};
 ghost use Rattle.verdict.specs.Judged.{axiomOf, judgedOf};
 ghost use Rattle.search.specs.Outcome.{outcomeOf};
@@ -168,6 +168,15 @@ pub extern "C" fn ct_read(block: &[u8]) -> u64
     let reading = bench::read(block);
     let refusal = reading.refusal;
     refusal_word(refusal)
+}
+
+// The table of a block; blank if reading refuses it.
+#[no_mangle]
+pub extern "C" fn ct_table_of(block: &[u8]) -> Table
+    ensures { λ r. ⌜ r ≡ readTable (now (block .entry)) ⌝ }
+{
+    let reading = bench::read(block);
+    reading.table
 }
 
 // Writing a block.

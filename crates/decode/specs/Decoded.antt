@@ -12,7 +12,7 @@ use Rattle.table.specs.Events.{noEvent, capacity}
 use Rattle.decode.specs.Layout.{byteAt, wordAt, hartsAt, locationsAt, eventsAt, statedAt, initialAt, recordAt, finalAt}
 
 -- "Record: 0 kind, 1 hart, 2 location, 3 flags, 4..5 address mask, 6..7 data mask, 8..9 control mask, 10..11 value read,
--- 12..13 value written"
+-- 12..13 value written", "bytes 14 and 15 become an operation and an operand"
 abbrev pub recordFrom : List ℕ → ℕ → Event
 recordFrom s at =
     record {
@@ -25,6 +25,8 @@ recordFrom s at =
       ctrl = wordAt s (at + 8);
       read = wordAt s (at + 10);
       written = wordAt s (at + 12);
+      operation = byteAt s (at + 14);
+      operand = byteAt s (at + 15);
     }
 
 abbrev pub pickEvent : Bool → Event → Event → Event

@@ -59,6 +59,10 @@ impl Field {
     pub const READ: usize = 10;
 
     pub const WRITTEN: usize = 12;
+
+    pub const OPERATION: usize = 14;
+
+    pub const OPERAND: usize = 15;
 }
 
 // Lengths in bytes.
@@ -109,6 +113,8 @@ fn record_at(s: &[u8], at: usize) -> Event
         ctrl: mask_at(s, at + Field::CTRL),
         read: word_at(s, at + Field::READ),
         written: word_at(s, at + Field::WRITTEN),
+        operation: byte_at(s, at + Field::OPERATION),
+        operand: byte_at(s, at + Field::OPERAND),
     }
 }
 

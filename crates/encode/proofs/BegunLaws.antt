@@ -9,10 +9,10 @@ use Rattle.edition.specs.Limits.{blockLength, maxEvents}
 use Rattle.table.specs.declared.Table.{Table}
 use Rattle.table.specs.Events.{event}
 use Rattle.checksum.specs.Checksum.{covered, checksum, weightedFrom}
-use Rattle.encode.specs.Encoded.{four, zeros, joined, headerZeros, initialBytes, fieldBytes, recordBytes, recordsBytes, finalBytes, coveredBytes, checkBytes, encoded}
+use Rattle.encode.specs.Encoded.{four, zeros, joined, headerZeros, initialBytes, recordBytes, recordsBytes, finalBytes, coveredBytes, checkBytes, encoded}
 use Rattle.encode.specs.Begun.{begun, header, front}
 use Rattle.encode.proofs.PutLaws.{length-joined, joined-more}
-use Rattle.encode.proofs.LengthLaws.{length-values, length-fields, length-record, length-records, length-front, length-covered, length-encoded}
+use Rattle.encode.proofs.LengthLaws.{length-values, length-record, length-records, length-front, length-covered, length-encoded}
 
 -- bytes set where zeros begin
 put-zeros : (a b : List ℕ) (r : ℕ) → sets (a ++ zeros (length b + r)) (length a) b ≡ a ++ b ++ zeros r
@@ -67,21 +67,17 @@ begun-front t l m e f =
 
 -- one more record is set
 pub begun-record : (t : Table) (k : ℕ) (l m : List ℕ) → k < maxEvents → l ≡ begun (front t ++ joined k (λ j. recordBytes (event t j)))
-    → m ≡ sets l (32 + 16 * k) (fieldBytes (event t k)) → m ≡ begun (front t ++ joined (k + 1) (λ j. recordBytes (event t j)))
-unfolding recordBytes
+    → m ≡ sets l (32 + 16 * k) (recordBytes (event t k)) → m ≡ begun (front t ++ joined (k + 1) (λ j. recordBytes (event t j)))
 begun-record t k l m h e f =
     let a = front t ++ joined k (λ j. recordBytes (event t j)) in
-    let b = fieldBytes (event t k) in
+    let b = recordBytes (event t k) in
     let n : length a ≡ 32 + 16 * k =
     length-append (front t) (joined k (λ j. recordBytes (event t j)))
     ∙ omega (arith, length-front t, length-joined 16 k (λ j. recordBytes (event t j)) (λ j. length-record (event t j))) in
-    let q : length (a ++ b) ≡ 32 + 16 * k + 14 = omega (arith, length-append a b, n, length-fields (event t k)) in
     f
-    ∙ begun-put a b l (32 + 16 * k) e (sym n) (omega (arith, length-fields (event t k)))
-    ∙ begun-zeros (a ++ b) 2 (omega (arith, q))
+    ∙ begun-put a b l (32 + 16 * k) e (sym n) (omega (arith, length-record (event t k)))
     ∙ ap begun
-    (append-assoc a b (zeros 2)
-    ∙ append-assoc (front t) (joined k (λ j. recordBytes (event t j))) (recordBytes (event t k))
+    (append-assoc (front t) (joined k (λ j. recordBytes (event t j))) b
     ∙ ap (λ (r : List ℕ). front t ++ r) (sym (joined-more k (λ j. recordBytes (event t j)))))
 
 -- all records are set

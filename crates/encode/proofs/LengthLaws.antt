@@ -7,23 +7,19 @@ use Rattle.edition.specs.Limits.{blockLength}
 use Rattle.table.specs.declared.Event.{Event}
 use Rattle.table.specs.declared.Table.{Table}
 use Rattle.checksum.specs.Checksum.{covered}
-use Rattle.encode.specs.Encoded.{joined, valueBytes, fieldBytes, recordBytes, recordsBytes, coveredBytes, checkBytes, encoded}
+use Rattle.encode.specs.Encoded.{joined, valueBytes, recordBytes, recordsBytes, coveredBytes, checkBytes, encoded}
 use Rattle.encode.specs.Begun.{front}
 
 pub length-values : (vs : List ℕ) → length (valueBytes vs) ≡ 16
 unfolding valueBytes joined
 length-values vs = refl
 
-pub length-fields : (e : Event) → length (fieldBytes e) ≡ 14
-unfolding fieldBytes
-length-fields e = refl
-
 pub length-record : (e : Event) → length (recordBytes e) ≡ 16
-unfolding recordBytes fieldBytes
+unfolding recordBytes
 length-record e = refl
 
 pub length-records : (t : Table) → length (recordsBytes t) ≡ 256
-unfolding recordsBytes joined recordBytes fieldBytes
+unfolding recordsBytes joined recordBytes
 length-records t = refl
 
 pub length-front : (t : Table) → length (front t) ≡ 32
@@ -31,9 +27,9 @@ unfolding front valueBytes joined
 length-front t = refl
 
 pub length-covered : (t : Table) → length (coveredBytes t) ≡ covered
-unfolding coveredBytes valueBytes recordsBytes joined recordBytes fieldBytes
+unfolding coveredBytes valueBytes recordsBytes joined recordBytes
 length-covered t = refl
 
 pub length-encoded : (t : Table) → length (encoded t) ≡ blockLength
-unfolding encoded checkBytes coveredBytes valueBytes recordsBytes joined recordBytes fieldBytes
+unfolding encoded checkBytes coveredBytes valueBytes recordsBytes joined recordBytes
 length-encoded t = refl

@@ -57,13 +57,13 @@ codeBytes e = e .kind ∷ e .hart ∷ e .location .0 ∷ e .flags ∷ []
 abbrev pub maskBytes : Event → List ℕ
 maskBytes e = two (e .addr) ++ two (e .«data») ++ two (e .ctrl)
 
--- ".. 10..11 value read, 12..13 value written, .."
-unfoldable pub fieldBytes : Event → List ℕ
-fieldBytes e = codeBytes e ++ maskBytes e ++ two (e .read) ++ two (e .written)
+-- "bytes 14 and 15 become an operation and an operand"
+abbrev pub operationBytes : Event → List ℕ
+operationBytes e = e .operation ∷ e .operand ∷ []
 
--- ".. 14..15 zero"
+-- ".. 10..11 value read, 12..13 value written, .."
 unfoldable pub recordBytes : Event → List ℕ
-recordBytes e = fieldBytes e ++ zeros 2
+recordBytes e = codeBytes e ++ maskBytes e ++ two (e .read) ++ two (e .written) ++ operationBytes e
 
 -- "32..287 | event records, 16 bytes each"
 unfoldable pub recordsBytes : Table → List ℕ

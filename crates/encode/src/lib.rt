@@ -14,7 +14,7 @@ ghost use lib.ListN.{length};
 ghost use lib.Seq.{sets};
 ghost use Rattle.edition.specs.Limits.{blockLength, maxLocations};
 ghost use Rattle.checksum.specs.Checksum.{checksum};
-ghost use Rattle.encode.specs.Encoded.{two, four, valueBytes, markerBytes, countBytes, codeBytes, maskBytes, fieldBytes, recordsBytes, encoded};
+ghost use Rattle.encode.specs.Encoded.{two, four, valueBytes, markerBytes, countBytes, codeBytes, maskBytes, operationBytes, recordBytes, recordsBytes, encoded};
 ghost use Rattle.encode.specs.Begun.{begun, header, front};
 
 // How many numbers there are of one byte, and of two.
@@ -92,15 +92,24 @@ fn put_masks(block: &mut [u8], at: usize, e: Event)
     put_word(block, at + Field::CTRL, e.ctrl);
 }
 
-// Sets the fields of the record whose first byte is at `at`.
+fn put_operation(block: &mut [u8], at: usize, e: Event)
+    requires { do ⌜ at + (← ⟦RECORD⟧) ≤ length (now block) ⌝ }
+    ensures { λ r. ⌜ now (block .exit) ≡ sets (now (block .entry)) (at + 14) (operationBytes e) ⌝ }
+{
+    block[at + Field::OPERATION] = e.operation;
+    block[at + Field::OPERAND] = e.operand;
+}
+
+// Sets the record whose first byte is at `at`.
 fn put_record(block: &mut [u8], at: usize, e: Event)
     requires { do ⌜ at + (← ⟦RECORD⟧) ≤ length (now block) ⌝ }
-    ensures { λ r. ⌜ now (block .exit) ≡ sets (now (block .entry)) at (fieldBytes e) ⌝ }
+    ensures { λ r. ⌜ now (block .exit) ≡ sets (now (block .entry)) at (recordBytes e) ⌝ }
 {
     put_codes(block, at, e);
     put_masks(block, at, e);
     put_word(block, at + Field::READ, e.read as u32);
     put_word(block, at + Field::WRITTEN, e.written as u32);
+    put_operation(block, at, e);
 }
 
 // Sets the block's records: the first slots of the table.

@@ -71,6 +71,30 @@ SC
     line.text(console::row(table, k))
 }
 
+// The instruction of an operation.
+fn operation(line: Line, n: u8) -> Line {
+    let table = b"
+amoadd
+amoand
+amoor
+amoxor
+amomaxu
+amominu
+";
+    line.text(console::row(table, n))
+}
+
+fn written(line: Line, e: Event) -> Line {
+    let value = line.value(b", writes ", e.written);
+    if e.operation == 0 {
+        value
+    } else {
+        operation(value.text(b" ("), e.operation)
+            .item(b" ", e.operand)
+            .text(b")")
+    }
+}
+
 fn values(line: Line, e: Event) -> Line {
     let read = if table::reads(e) {
         line.value(b", reads ", e.read)
@@ -78,7 +102,7 @@ fn values(line: Line, e: Event) -> Line {
         line
     };
     if table::writes(e) {
-        read.value(b", writes ", e.written)
+        written(read, e)
     } else {
         read
     }

@@ -21,7 +21,7 @@ y = 1
 -- an event of a kind, on a hart, at a location, with the values read and written
 abbrev access : (kind hart location read written : ℕ) → Event
 access k h l r w =
-    record { kind = k; hart = h; location = record { 0 = l }; flags = 0; addr = 0; «data» = 0; ctrl = 0; read = r; written = w }
+    record { kind = k; hart = h; location = record { 0 = l }; flags = 0; addr = 0; «data» = 0; ctrl = 0; read = r; written = w; operation = 0; operand = 0 }
 
 abbrev loads : (hart location read : ℕ) → Event
 loads h l r = access load h l r 0
@@ -32,17 +32,17 @@ stores h l w = access store h l 0 w
 -- a load with an address mask and a control mask
 abbrev dependentLoad : (hart location read addr ctrl : ℕ) → Event
 dependentLoad h l r a c =
-    record { kind = load; hart = h; location = record { 0 = l }; flags = 0; addr = a; «data» = 0; ctrl = c; read = r; written = 0 }
+    record { kind = load; hart = h; location = record { 0 = l }; flags = 0; addr = a; «data» = 0; ctrl = c; read = r; written = 0; operation = 0; operand = 0 }
 
 -- an event of a kind with an annotation
 abbrev annotated : (kind hart location flags read written : ℕ) → Event
 annotated k h l f r w =
-    record { kind = k; hart = h; location = record { 0 = l }; flags = f; addr = 0; «data» = 0; ctrl = 0; read = r; written = w }
+    record { kind = k; hart = h; location = record { 0 = l }; flags = f; addr = 0; «data» = 0; ctrl = 0; read = r; written = w; operation = 0; operand = 0 }
 
 -- a fence of all four bits
 abbrev fullFence : ℕ → Event
 fullFence h =
-    record { kind = fence; hart = h; location = record { 0 = 0 }; flags = 15; addr = 0; «data» = 0; ctrl = 0; read = 0; written = 0 }
+    record { kind = fence; hart = h; location = record { 0 = 0 }; flags = 15; addr = 0; «data» = 0; ctrl = 0; read = 0; written = 0; operation = 0; operand = 0 }
 
 abbrev padded : List Event → List Event
 padded es = es ++ replicate (capacity - length es) noEvent

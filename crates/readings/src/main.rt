@@ -27,13 +27,17 @@ fn dependencies(line: Line, e: Event) -> Line {
         .spaced(e.ctrl as u64)
 }
 
+fn operation(line: Line, e: Event) -> Line {
+    line.spaced(e.operation as u64).spaced(e.operand as u64)
+}
+
 fn event(line: Line, e: Event) -> Line {
     let access = line.text(b" /")
         .spaced(e.kind as u64)
         .spaced(e.hart as u64)
         .spaced(e.location.0 as u64)
         .spaced(e.flags as u64);
-    value(value(dependencies(access, e), e.read), e.written)
+    operation(value(value(dependencies(access, e), e.read), e.written), e)
 }
 
 fn events(line: Line, t: Table) -> Line {

@@ -1,5 +1,6 @@
 // Lines 7 and 8: tests of one record's fields.
 use edition::EventNo;
+use operation::Operation;
 use table::Event;
 use table::Kind;
 use table::Table;
@@ -9,7 +10,7 @@ ghost use mathlib.Core.Bool.{_&&_, _||_, not};
 ghost use lib.Dec.{leb, eqb};
 ghost use Rattle.table.specs.Events.{capacity, readingKind, memoryKind, store, sc};
 ghost use Rattle.table.specs.Annotations.{acquirePc, acquireSc, releasePc, releaseSc};
-ghost use Rattle.refusals.specs.TableLines.{fieldOutOfRange, valueNotZero, fenceNotZero, line7, line8};
+ghost use Rattle.refusals.specs.TableLines.{fieldOutOfRange, valueNotZero, fenceNotZero, operationOutOfRange, operandNotZero, notApplied, line7, line8};
 
 // Flags have four bits.
 const FLAGS: u8 = 16;
@@ -36,12 +37,36 @@ fn fence_not_zero(e: Event) -> bool
         | ((e.kind == Kind::FENCE_TSO) & (e.flags != 0))
 }
 
+fn operation_out_of_range(e: Event) -> bool
+    ensures { λ r. ⌜ r ≡ operationOutOfRange e ⌝ }
+{
+    (Operation::MINU < e.operation) | ((e.kind != Kind::AMO) & (e.operation != Operation::NONE))
+}
+
+fn operand_not_zero(e: Event) -> bool
+    ensures { λ r. ⌜ r ≡ operandNotZero e ⌝ }
+{
+    (e.operation == Operation::NONE) & (e.operand != 0)
+}
+
+fn not_applied(e: Event) -> bool
+    ensures { λ r. ⌜ r ≡ notApplied e ⌝ }
+{
+    (e.operation != Operation::NONE)
+        & (e.written != operation::apply(e.operation, e.read, e.operand))
+}
+
 pub fn line7(t: Table, k: EventNo) -> bool
     requires { ⌜ k .0 < capacity ⌝ }
     ensures { λ r. ⌜ r ≡ line7 t (k .0) ⌝ }
 {
     let e = t.events[k.0 as usize];
-    field_out_of_range(t, e) | value_not_zero(e) | fence_not_zero(e)
+    field_out_of_range(t, e)
+        | value_not_zero(e)
+        | fence_not_zero(e)
+        | operation_out_of_range(e)
+        | operand_not_zero(e)
+        | not_applied(e)
 }
 
 fn acquires(flags: u8) -> bool

@@ -8,9 +8,10 @@ use lib.Dec.{eqb, ltb, leb}
 use Rattle.lists.specs.Below.{some}
 use Rattle.masks.specs.Bit.{bit}
 use Rattle.edition.specs.Limits.{maxHarts, maxLocations, maxEvents}
+use Rattle.operation.specs.Operation.{noOperation, amominu, applied}
 use Rattle.table.specs.declared.Event.{Event}
 use Rattle.table.specs.declared.Table.{Table}
-use Rattle.table.specs.Events.{capacity, event, kind, reads, writes, memory, sameLocation, po, paired, readingKind, writingKind, fencingKind, load, store, lr, sc, fencetso}
+use Rattle.table.specs.Events.{capacity, event, kind, reads, writes, memory, sameLocation, po, paired, readingKind, writingKind, fencingKind, load, store, amo, lr, sc, fencetso}
 use Rattle.table.specs.Annotations.{acquirePc, acquireSc, releasePc, releaseSc, flags, acquire, release}
 use Rattle.refusals.specs.Lines.{Line, whole, record-of}
 
@@ -42,7 +43,7 @@ finalNotZero t x = not (bit (t .stated) x) && not (eqb (getD (t .finals) x 0) 0)
 unfoldable pub blank : Event → Bool
 blank e =
     eqb (e .kind) 0 && eqb (e .hart) 0 && eqb (e .location .0) 0 && eqb (e .flags) 0 && eqb (e .addr) 0 && eqb (e .«data») 0
-    && eqb (e .ctrl) 0 && eqb (e .read) 0 && eqb (e .written) 0
+    && eqb (e .ctrl) 0 && eqb (e .read) 0 && eqb (e .written) 0 && eqb (e .operation) 0 && eqb (e .operand) 0
 
 -- "records past the events"
 unfoldable pub pastNotBlank : Table → ℕ → Bool
@@ -68,8 +69,22 @@ fenceNotZero e =
     && (not (eqb (e .location .0) 0) || not (eqb (e .addr) 0) || not (eqb (e .«data») 0) || not (eqb (e .ctrl) 0))
     || eqb (e .kind) fencetso && not (eqb (e .flags) 0)
 
+-- "Only an AMO may have an operation", 0 to 6
+unfoldable pub operationOutOfRange : Event → Bool
+operationOutOfRange e = ltb amominu (e .operation) || not (eqb (e .kind) amo) && not (eqb (e .operation) noOperation)
+
+-- "0 none (the written value is as stated, operand 0)"
+unfoldable pub operandNotZero : Event → Bool
+operandNotZero e = eqb (e .operation) noOperation && not (eqb (e .operand) 0)
+
+-- "With one, the written value must be the operation applied to the value read."
+unfoldable pub notApplied : Event → Bool
+notApplied e = not (eqb (e .operation) noOperation) && not (eqb (e .written) (applied (e .operation) (e .read) (e .operand)))
+
 unfoldable pub line7 : Table → ℕ → Bool
-line7 t k = fieldOutOfRange t (event t k) || valueNotZero (event t k) || fenceNotZero (event t k)
+line7 t k =
+    fieldOutOfRange t (event t k) || valueNotZero (event t k) || fenceNotZero (event t k) || operationOutOfRange (event t k)
+    || operandNotZero (event t k) || notApplied (event t k)
 
 -- 8: "both acquires or both releases at once"
 unfoldable pub bothAtOnce : Table → ℕ → Bool

@@ -53,7 +53,20 @@ capacity = 32
 
 -- a slot past the events: all fields zero
 abbrev pub noEvent : Event
-noEvent = record { kind = 0; hart = 0; location = record { 0 = 0 }; flags = 0; addr = 0; «data» = 0; ctrl = 0; read = 0; written = 0 }
+noEvent =
+    record {
+      kind = 0;
+      hart = 0;
+      location = record { 0 = 0 };
+      flags = 0;
+      addr = 0;
+      «data» = 0;
+      ctrl = 0;
+      read = 0;
+      written = 0;
+      operation = 0;
+      operand = 0;
+    }
 
 -- event k of the table
 unfoldable pub event : Table → ℕ → Event

@@ -41,6 +41,8 @@ pub struct Event {
     pub ctrl: u32,
     pub read: u16,
     pub written: u16,
+    pub operation: u8,
+    pub operand: u8,
 }
 
 // `count` is the number of events; slots past it are blank in a good table.
@@ -69,6 +71,8 @@ pub fn no_event() -> Event
         ctrl: 0,
         read: 0,
         written: 0,
+        operation: 0,
+        operand: 0,
     }
 }
 

@@ -72,6 +72,8 @@ fn blank(e: Event) -> bool
         & (e.ctrl == 0)
         & (e.read == 0)
         & (e.written == 0)
+        & (e.operation == 0)
+        & (e.operand == 0)
 }
 
 fn past_not_blank(t: Table) -> bool

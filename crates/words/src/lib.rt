@@ -14,7 +14,7 @@ the block doesn't begin with the marker RVT1 (52 56 54 31 hex)
 the edition in byte 4 isn't 1
 the number of harts (1 to 4), locations (1 to 8) or events (1 to 16) is out of range, or a final value is stated of a location that isn't in the test
 a byte that must be zero isn't: an unused byte, an initial value of a location that isn't in the test, a final value that isn't stated, or a record past the events
-the record's kind, hart, location or flags are out of range, or it has what its kind can't have: a value read on an event that doesn't read, a value written on one that doesn't write, a location or a mask on a fence, flags on a fence.tso
+the record's kind, hart, location, flags or operation are out of range, or it has what its kind can't have: a value read on an event that doesn't read, a value written on one that doesn't write, a location or a mask on a fence, flags on a fence.tso, an operation on an event that isn't an AMO; or it has an operand without an operation, or a value written that isn't what the operation makes of the value read
 the record's annotations don't go together: both acquires or both releases at once, a release without an acquire on a load or an LR, or an acquire without a release on a plain store or an SC
 a dependency mask of the record is wrong: it names an event that isn't earlier on the same hart, or a plain store, or a fence; or it is a data mask on an event that doesn't write, or a control dependency that some later memory event of the hart lacks
 the SC isn't paired: the nearest earlier LR or SC on its hart isn't an LR to the same location

@@ -12,7 +12,7 @@ use Rattle.table.specs.declared.Table.{Table}
 use Rattle.table.specs.Events.{event}
 use Rattle.checksum.specs.Checksum.{covered, weightedFrom, checksum}
 use Rattle.decode.specs.Layout.{byteAt}
-use Rattle.encode.specs.Encoded.{two, zeros, joined, valueBytes, markerBytes, countBytes, statedBytes, headerZeros, initialBytes, codeBytes, maskBytes, fieldBytes, recordBytes, recordsBytes, finalBytes, tailZeros, coveredBytes, checkBytes, encoded}
+use Rattle.encode.specs.Encoded.{two, zeros, joined, valueBytes, markerBytes, countBytes, statedBytes, headerZeros, initialBytes, codeBytes, maskBytes, operationBytes, recordBytes, recordsBytes, finalBytes, tailZeros, coveredBytes, checkBytes, encoded}
 use Rattle.encode.specs.Begun.{header, front}
 use Rattle.encode.proofs.LengthLaws.{length-covered}
 use Rattle.writer.specs.Fits.{Bytes, EventFits, TableFits}
@@ -50,13 +50,13 @@ bytes-masks e =
     (bytes-two (e .ctrl))
 
 bytes-record : (e : Event) → EventFits e → Bytes (recordBytes e)
-unfolding recordBytes fieldBytes
+unfolding recordBytes
 bytes-record e f =
     let codes : Bytes (codeBytes e) = (f .kind, (f .hart, (f .location, (f .flags, tt)))) in
     let masks = bytes-append (codeBytes e) (maskBytes e) codes (bytes-masks e) in
     let read = bytes-append (codeBytes e ++ maskBytes e) (two (e .read)) masks (bytes-two (e .read)) in
     let written = bytes-append (codeBytes e ++ maskBytes e ++ two (e .read)) (two (e .written)) read (bytes-two (e .written)) in
-    bytes-append (fieldBytes e) (zeros 2) written (bytes-zeros 2)
+    bytes-append (codeBytes e ++ maskBytes e ++ two (e .read) ++ two (e .written)) (operationBytes e) written (f .operation, (f .operand, tt))
 
 bytes-records : (t : Table) → TableFits t → Bytes (recordsBytes t)
 unfolding recordsBytes

@@ -44,15 +44,16 @@ passed-lines t extra h =
 
 -- events with the same fields
 pub event-same : (d e : Event) → d .kind ≡ e .kind → d .hart ≡ e .hart → d .location .0 ≡ e .location .0 → d .flags ≡ e .flags
-    → d .addr ≡ e .addr → d .«data» ≡ e .«data» → d .ctrl ≡ e .ctrl → d .read ≡ e .read → d .written ≡ e .written → d ≡ e
-event-same d e a b f g i j k l m =
-    let same : made (d .kind) (d .hart) (d .location .0) (d .flags) (d .addr) (d .«data») (d .ctrl) (d .read) (d .written)
-    ≡ made (e .kind) (e .hart) (e .location .0) (e .flags) (e .addr) (e .«data») (e .ctrl) (e .read) (e .written) = cc in
+    → d .addr ≡ e .addr → d .«data» ≡ e .«data» → d .ctrl ≡ e .ctrl → d .read ≡ e .read → d .written ≡ e .written
+    → d .operation ≡ e .operation → d .operand ≡ e .operand → d ≡ e
+event-same d e a b f g i j k l m n o =
+    let same : made (d .kind) (d .hart) (d .location .0) (d .flags) (d .addr) (d .«data») (d .ctrl) (d .read) (d .written) (d .operation) (d .operand)
+    ≡ made (e .kind) (e .hart) (e .location .0) (e .flags) (e .addr) (e .«data») (e .ctrl) (e .read) (e .written) (e .operation) (e .operand) = cc in
     same
   where
-    made : (k h x f a d c r w : ℕ) → Event
-    made k h x f a d c r w =
-        record { kind = k; hart = h; location = record { 0 = x }; flags = f; addr = a; «data» = d; ctrl = c; read = r; written = w }
+    made : (k h x f a d c r w p o : ℕ) → Event
+    made k h x f a d c r w p o =
+        record { kind = k; hart = h; location = record { 0 = x }; flags = f; addr = a; «data» = d; ctrl = c; read = r; written = w; operation = p; operand = o }
 
 -- the last of some tests for zero
 last-zero : (b : Bool) (n : ℕ) → (b && eqb n 0) ≡ true → (b ≡ true) × (n ≡ 0)
@@ -62,7 +63,9 @@ last-zero b n h = (and-l b (eqb n 0) h, eqb-true n 0 (and-r b (eqb n 0) h))
 blank-is : (e : Event) → blank e ≡ true → e ≡ noEvent
 unfolding blank
 blank-is e h =
-    let written = last-zero _ (e .written) h in
+    let operand = last-zero _ (e .operand) h in
+    let operation = last-zero _ (e .operation) (operand .0) in
+    let written = last-zero _ (e .written) (operation .0) in
     let read = last-zero _ (e .read) (written .0) in
     let ctrl = last-zero _ (e .ctrl) (read .0) in
     let «data» = last-zero _ (e .«data») (ctrl .0) in
@@ -70,7 +73,7 @@ blank-is e h =
     let flags = last-zero _ (e .flags) (addr .0) in
     let location = last-zero _ (e .location .0) (flags .0) in
     let hart = last-zero _ (e .hart) (location .0) in
-    event-same e noEvent (eqb-true (e .kind) 0 (hart .0)) (hart .1) (location .1) (flags .1) (addr .1) («data» .1) (ctrl .1) (read .1) (written .1)
+    event-same e noEvent (eqb-true (e .kind) 0 (hart .0)) (hart .1) (location .1) (flags .1) (addr .1) («data» .1) (ctrl .1) (read .1) (written .1) (operation .1) (operand .1)
 
 -- past the events stand blanks
 past-blank : (t : Table) (k : ℕ) → line6 t ≡ false → t .count ≤ k → k < capacity → event t k ≡ noEvent

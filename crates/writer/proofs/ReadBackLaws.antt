@@ -8,10 +8,8 @@ use native.Mathlib.Omega.{arith}
 use lib.Dec.{ltb}
 use lib.ListN.{length, getD}
 use borrow.Author.Tests.{ltb-true, ltb-false, eq-eqb}
-use Rattle.lists.specs.Below.{some}
 use Rattle.lists.specs.Filled.{upTo}
 use Rattle.lists.proofs.FilledLaws.{upTo-same}
-use Rattle.lists.proofs.SomeLaws.{some-none}
 use Rattle.edition.specs.Limits.{maxEvents, maxLocations}
 use Rattle.table.specs.declared.Event.{Event}
 use Rattle.table.specs.declared.Table.{Table}
@@ -22,10 +20,10 @@ use Rattle.decode.specs.Decoded.{recordFrom, pickEvent, eventAt, initialOf, fin
 use Rattle.refusals.specs.Lines.{Refused, accepted, firstLine}
 use Rattle.refusals.specs.TableLines.{tableLines}
 use Rattle.refusals.proofs.LineLaws.{whole-next}
-use Rattle.block.specs.ZeroBytes.{recordZeros, bytesNotZero}
+use Rattle.block.specs.ZeroBytes.{bytesNotZero}
 use Rattle.block.specs.Reading.{tableIf, readingLines, readRefusal, readTable}
-use Rattle.encode.specs.Encoded.{two, four, zeros, fieldBytes, recordBytes, coveredBytes, checkBytes, encoded}
-use Rattle.encode.proofs.LengthLaws.{length-fields, length-record, length-covered, length-encoded}
+use Rattle.encode.specs.Encoded.{two, four, recordBytes, coveredBytes, checkBytes, encoded}
+use Rattle.encode.proofs.LengthLaws.{length-record, length-covered, length-encoded}
 use Rattle.writer.specs.Fits.{EventFits, ValuesFit, TableFits}
 use Rattle.writer.proofs.StandsLaws.{Stands, stands-self, stands-left, stands-right, zeros-stand}
 use Rattle.writer.proofs.NumberLaws.{word-of, long-of}
@@ -44,7 +42,7 @@ word-back s at n h g = ap (wordAt s) (sym (add-zero at)) ∙ word-within s (two 
 
 -- a record
 record-back : (s : List ℕ) (at : ℕ) (e : Event) → EventFits e → MasksSmall e → Stands s at (recordBytes e) → recordFrom s at ≡ e
-unfolding recordBytes fieldBytes
+unfolding recordBytes
 record-back s at e f m g =
     let n = length-record e in
     event-same (recordFrom s at) e (ap (byteAt s) (sym (add-zero at)) ∙ g 0 (omega (arith, n))) (g 1 (omega (arith, n))) (g 2 (omega (arith, n))) (g 3 (omega (arith, n)))
@@ -53,6 +51,7 @@ record-back s at e f m g =
     (word-within s (recordBytes e) at 8 (omega (arith, n)) g ∙ word-of (e .ctrl) (m .ctrl))
     (word-within s (recordBytes e) at 10 (omega (arith, n)) g ∙ word-of (e .read) (f .read))
     (word-within s (recordBytes e) at 12 (omega (arith, n)) g ∙ word-of (e .written) (f .written))
+    (g 14 (omega (arith, n))) (g 15 (omega (arith, n)))
 
 -- the values of the locations
 values-back : (s vs : List ℕ) (at : ℕ) → ValuesFit vs → ((x : ℕ) → x < maxLocations → Stands s (at + 2 * x) (two (getD vs x 0)))
@@ -92,13 +91,8 @@ module _ (s : List ℕ) (t : Table) (h : Holds s t) (f : TableFits t) (g : Good 
 
 -- no byte named zero isn't zero
 zeros-back : (s : List ℕ) (t : Table) → Holds s t → bytesNotZero s ≡ false
-unfolding bytesNotZero recordZeros recordBytes
-zeros-back s t h =
-    let records : some maxEvents (recordZeros s) ≡ false =
-    some-none maxEvents (recordZeros s)
-    (λ k l. zeros-stand s (recordAt k + 14) 2
-    (stands-right s (fieldBytes (event t k)) (zeros 2) (recordAt k) (recordAt k + 14) (omega (arith, length-fields (event t k))) (h .records k l))) in
-    rw (zeros-stand s 9 7 (h .header), zeros-stand s 304 204 (h .tail), records) refl
+unfolding bytesNotZero
+zeros-back s t h = rw (zeros-stand s 9 7 (h .header), zeros-stand s 304 204 (h .tail)) refl
 
 -- the block of a table holds it
 encoded-holds : (t : Table) → Holds (encoded t) t

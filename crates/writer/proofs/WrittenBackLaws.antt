@@ -9,10 +9,8 @@ use lib.Dec.{eqb}
 use lib.ListN.{length, take}
 use lib.Seq.{length-take-le, getD-take}
 use borrow.Author.Tests.{lt-ltb, eqb-true, not-false}
-use Rattle.lists.specs.Below.{some}
 use Rattle.lists.proofs.BoolLaws.{or-off}
 use Rattle.lists.proofs.FilledLaws.{getD-upTo}
-use Rattle.lists.proofs.SomeLaws.{none-at}
 use Rattle.edition.specs.Limits.{editionNumber, maxEvents, maxLocations, blockLength}
 use Rattle.table.specs.declared.Event.{Event}
 use Rattle.table.specs.declared.Table.{Table}
@@ -23,10 +21,10 @@ use Rattle.decode.specs.Decoded.{recordFrom, eventAt, initialOf, finalOf, decod
 use Rattle.refusals.specs.Lines.{accepted, whole, firstLine}
 use Rattle.refusals.specs.TableLines.{line5, line6, recordLines, tableLines}
 use Rattle.refusals.proofs.LineLaws.{whole-off}
-use Rattle.block.specs.ZeroBytes.{headerZeros, tailZeros, recordZeros, bytesNotZero}
+use Rattle.block.specs.ZeroBytes.{headerZeros, tailZeros, bytesNotZero}
 use Rattle.block.specs.Reading.{line1, line2, line3, line4, readingLines, readRefusal}
-use Rattle.encode.specs.Encoded.{two, four, zeros, markerBytes, countBytes, statedBytes, codeBytes, maskBytes, fieldBytes, recordBytes, coveredBytes, checkBytes, encoded}
-use Rattle.encode.proofs.LengthLaws.{length-fields, length-covered, length-encoded}
+use Rattle.encode.specs.Encoded.{two, four, markerBytes, countBytes, statedBytes, codeBytes, maskBytes, operationBytes, recordBytes, coveredBytes, checkBytes, encoded}
+use Rattle.encode.proofs.LengthLaws.{length-covered, length-encoded}
 use Rattle.writer.specs.Fits.{Bytes}
 use Rattle.writer.proofs.StandsLaws.{Stands, stands-all, stands-both, stands-zeros, entries-stand}
 use Rattle.writer.proofs.NumberLaws.{word-low, word-high, long-0, long-1, long-2, long-3}
@@ -82,17 +80,19 @@ module _ (s : List ℕ) (bytes : Bytes s) where
       )
 
   -- those of a record
-  record-stands : (at : ℕ) → Stands s (at + 14) (zeros 2) → Stands s at (recordBytes (recordFrom s at))
-  unfolding recordBytes fieldBytes
-  record-stands at z =
+  record-stands : (at : ℕ) → Stands s at (recordBytes (recordFrom s at))
+  unfolding recordBytes
+  record-stands at =
       let e = recordFrom s at in
       let codes = entries-stand s at (codeBytes e) (ap (byteAt s) (add-zero at), (refl, (refl, (refl, tt)))) in
       let addr-data = stands-both s (two (e .addr)) (two (e .«data»)) (at + 4) (at + 6) (omega arith) (two-stand (at + 4)) (two-stand (at + 6)) in
       let masks = stands-both s (two (e .addr) ++ two (e .«data»)) (two (e .ctrl)) (at + 4) (at + 8) (omega arith) addr-data (two-stand (at + 8)) in
       let to-read = stands-both s (codeBytes e) (maskBytes e) at (at + 4) (omega arith) codes masks in
       let to-written = stands-both s (codeBytes e ++ maskBytes e) (two (e .read)) at (at + 10) (omega arith) to-read (two-stand (at + 10)) in
-      let fields = stands-both s (codeBytes e ++ maskBytes e ++ two (e .read)) (two (e .written)) at (at + 12) (omega arith) to-written (two-stand (at + 12)) in
-      stands-both s (fieldBytes e) (zeros 2) at (at + 14) (omega (arith, length-fields e)) fields z
+      let to-operation = stands-both s (codeBytes e ++ maskBytes e ++ two (e .read)) (two (e .written)) at (at + 12) (omega arith) to-written (two-stand (at + 12)) in
+      let next : at + 14 + 1 ≡ at + 15 = omega arith in
+      let operation = entries-stand s (at + 14) (operationBytes e) (ap (byteAt s) (add-zero (at + 14)), (ap (byteAt s) next, tt)) in
+      stands-both s (codeBytes e ++ maskBytes e ++ two (e .read) ++ two (e .written)) (operationBytes e) at (at + 14) (omega arith) to-operation operation
 
   -- slot k of the table is record k
   slot-is : (k : ℕ) → k < maxEvents → recordFrom s (recordAt k) ≡ event (decoded s) k
@@ -102,10 +102,9 @@ module _ (s : List ℕ) (bytes : Bytes s) where
 
   -- each part of the layout stands at its place
   holds-decoded : Passed s → Holds s (decoded s)
-  unfolding decoded bytesNotZero recordZeros initialOf finalOf
+  unfolding decoded bytesNotZero initialOf finalOf
   holds-decoded p =
-      let outer = or-off (headerZeros s || tailZeros s) (some maxEvents (recordZeros s)) (p .zero) in
-      let inner = or-off (headerZeros s) (tailZeros s) (outer .0) in
+      let zeroed = or-off (headerZeros s) (tailZeros s) (p .zero) in
       let byte : (i n : ℕ) → Bool = λ i n. not (eqb (byteAt s i) n) in
       let m3 = or-off (byte 0 0x52 || byte 1 0x56 || byte 2 0x54) (byte 3 0x31) (p .marker) in
       let m2 = or-off (byte 0 0x52 || byte 1 0x56) (byte 2 0x54) (m3 .0) in
@@ -114,12 +113,11 @@ module _ (s : List ℕ) (bytes : Bytes s) where
         marker = entries-stand s 0 markerBytes (equal-of _ _ (m1 .0), (equal-of _ _ (m1 .1), (equal-of _ _ (m2 .1), (equal-of _ _ (m3 .1), tt))));
         counts = entries-stand s 4 (countBytes (decoded s)) (p .edition, (refl, (refl, (refl, tt))));
         stated = entries-stand s 8 (statedBytes (decoded s)) (refl, tt);
-        header = stands-zeros s 9 7 (inner .0);
+        header = stands-zeros s 9 7 (zeroed .0);
         initial = λ x l. subst (λ (v : ℕ). Stands s (16 + 2 * x) (two v)) (sym (getD-upTo maxLocations (initialOf s) x 0 l)) (two-stand (16 + 2 * x));
-        records = λ k l. subst (λ (e : Event). Stands s (32 + 16 * k) (recordBytes e)) (slot-is k l)
-            (record-stands (32 + 16 * k) (stands-zeros s (32 + 16 * k + 14) 2 (none-at maxEvents (recordZeros s) k (outer .1) l)));
+        records = λ k l. subst (λ (e : Event). Stands s (32 + 16 * k) (recordBytes e)) (slot-is k l) (record-stands (32 + 16 * k));
         finals = λ x l. subst (λ (v : ℕ). Stands s (288 + 2 * x) (two v)) (sym (getD-upTo maxLocations (finalOf s) x 0 l)) (two-stand (288 + 2 * x));
-        tail = stands-zeros s 304 204 (inner .1);
+        tail = stands-zeros s 304 204 (zeroed .1);
       }
 
   -- the bytes of the stored check

@@ -24,6 +24,8 @@ pub record EventFits (e : Event) : Type 0 where
   pub ctrl : e .ctrl < 2 ^ 32
   pub read : e .read < 2 ^ 16
   pub written : e .written < 2 ^ 16
+  pub operation : e .operation < 2 ^ 8
+  pub operand : e .operand < 2 ^ 8
 
 -- [u16; 8]
 pub record ValuesFit (vs : List ℕ) : Type 0 where

@@ -42,6 +42,8 @@ fn event() -> Event {
         ctrl: mask(),
         read: value(),
         written: value(),
+        operation: small(),
+        operand: small(),
     }
 }
 

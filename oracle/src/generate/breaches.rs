@@ -4,6 +4,7 @@
 use crate::encode::{encode, seal};
 use crate::layout::{field::*, *};
 use crate::litmus::*;
+use crate::operation::Operation::{self, Add, And, Larger, Or, Smaller, Xor};
 use crate::table::{Line, Table, ACQUIRE_RCSC, PR, RELEASE_RCPC, SW};
 
 /// A byte's place and its new value.
@@ -26,7 +27,8 @@ impl Breach {
     }
 }
 
-/// The base: 3 harts, 5 locations, 12 events, and all seven kinds.
+/// The base: 3 harts, 5 locations, 13 events, and all seven kinds. Of the AMOs one has an
+/// operation, which clears the high byte.
 pub fn base() -> Table {
     let events = vec![
         load(0, 0, 7),
@@ -41,6 +43,7 @@ pub fn base() -> Table {
         lr(2, 3, 6),
         sc(2, 3, 8).data_from(9),
         load(2, 1, 0).flags(ACQUIRE_RCSC),
+        amo(1, 3, 258, 2).operation(And, 255),
     ];
     Table { initial: [7, 0, 5, 258, 0, 0, 0, 0], ..table(events) }
         .with_final(0, 65535)
@@ -61,6 +64,8 @@ pub fn breaches() -> Vec<Breach> {
     ];
     let records = [
         (Line::Fields, FIELDS_BREACHES),
+        (Line::Fields, OPERATIONS_BREACHES),
+        (Line::Fields, WRITTEN_BREACHES),
         (Line::Annotations, ANNOTATIONS_BREACHES),
         (Line::Dependencies, DEPENDENCIES_BREACHES),
         (Line::Pairing, PAIRING_BREACHES),
@@ -125,21 +130,17 @@ const ZEROS_BREACHES: &[&[Change]] = &[
     &[(final_at(7) + 1, 255)],
     // A stated value that is no longer stated.
     &[(STATED_AT, 0b001)],
-    // Records past the events: the first, the last, their spare bytes.
-    &[(record_at(12) + KIND, 1)],
-    &[(record_at(12) + FLAGS, 1)],
-    &[(record_at(13) + HART, 1)],
+    // Records past the events: the first, the last, their operations and operands.
+    &[(record_at(13) + KIND, 1)],
+    &[(record_at(13) + FLAGS, 1)],
+    &[(record_at(14) + HART, 1)],
     &[(record_at(14) + CONTROL + 1, 128)],
     &[(record_at(15) + WRITTEN + 1, 1)],
-    &[(record_at(12) + 14, 1)],
-    &[(record_at(15) + 15, 255)],
-    // Spare bytes of records of the test.
-    &[(record_at(0) + 14, 1)],
-    &[(record_at(0) + 15, 1)],
-    &[(record_at(3) + 14, 128)],
-    &[(record_at(11) + 15, 255)],
+    &[(record_at(13) + OPERATION, 1)],
+    &[(record_at(14) + OPERATION, 255)],
+    &[(record_at(15) + OPERAND, 255)],
     // One event fewer leaves the last record past the events.
-    &[(EVENTS_AT, 11)],
+    &[(EVENTS_AT, 12)],
 ];
 
 /// Breaches of a line that names a record: the record, and the changes.
@@ -197,6 +198,93 @@ const FIELDS_BREACHES: RecordBreaches = &[
     (6, &[(record_at(6) + FLAGS, 16)]),
 ];
 
+const OPERATIONS_BREACHES: RecordBreaches = &[
+    // An operation above 6; some would be none or `and` if they were cut to three bits.
+    (4, &[(record_at(4) + OPERATION, 7)]),
+    (4, &[(record_at(4) + OPERATION, 8)]),
+    (12, &[(record_at(12) + OPERATION, 7)]),
+    (12, &[(record_at(12) + OPERATION, 8 | And as u8)]),
+    (12, &[(record_at(12) + OPERATION, 128 | And as u8)]),
+    (12, &[(record_at(12) + OPERATION, 255)]),
+    (3, &[(record_at(3) + OPERATION, 128)]),
+    // An operation on another kind, though the value written would be right: load, LR, fence,
+    // SC, fence.tso, store, SC, load.
+    (0, &[(record_at(0) + OPERATION, And as u8)]),
+    (2, &[(record_at(2) + OPERATION, Smaller as u8)]),
+    (3, &[(record_at(3) + OPERATION, Add as u8)]),
+    (5, &[(record_at(5) + OPERATION, Or as u8), (record_at(5) + OPERAND, 9)]),
+    (6, &[(record_at(6) + OPERATION, Larger as u8)]),
+    (8, &[(record_at(8) + OPERATION, Xor as u8), (record_at(8) + OPERAND, 4)]),
+    (10, &[(record_at(10) + OPERATION, Add as u8), (record_at(10) + OPERAND, 8)]),
+    (11, &[(record_at(11) + OPERATION, And as u8), (record_at(11) + OPERAND, 255)]),
+    // An operation on another kind, and a wrong value: load, store.
+    (0, &[(record_at(0) + OPERATION, Add as u8)]),
+    (1, &[(record_at(1) + OPERATION, Add as u8), (record_at(1) + OPERAND, 255)]),
+    // An operand without an operation, on each kind.
+    (0, &[(record_at(0) + OPERAND, 1)]),
+    (1, &[(record_at(1) + OPERAND, 255)]),
+    (2, &[(record_at(2) + OPERAND, 128)]),
+    (3, &[(record_at(3) + OPERAND, 1)]),
+    (4, &[(record_at(4) + OPERAND, 255)]),
+    (5, &[(record_at(5) + OPERAND, 9)]),
+    (6, &[(record_at(6) + OPERAND, 255)]),
+    (11, &[(record_at(11) + OPERAND, 255)]),
+    (12, &[(record_at(12) + OPERATION, Operation::None as u8)]),
+];
+
+/// Another operation with its operand and values, for the AMO of record 12.
+const fn applied(operation: Operation, operand: u8, read: u16, written: u16) -> [Change; 6] {
+    let [read, read_high] = read.to_le_bytes();
+    let [written, written_high] = written.to_le_bytes();
+    [
+        (record_at(12) + OPERATION, operation as u8),
+        (record_at(12) + OPERAND, operand),
+        (record_at(12) + READ, read),
+        (record_at(12) + READ + 1, read_high),
+        (record_at(12) + WRITTEN, written),
+        (record_at(12) + WRITTEN + 1, written_high),
+    ]
+}
+
+/// A value written that isn't what the operation makes of the value read.
+const WRITTEN_BREACHES: RecordBreaches = &[
+    // The base's `and`: one more, the high byte kept, another value read, another operand.
+    (12, &[(record_at(12) + WRITTEN, 3)]),
+    (12, &[(record_at(12) + WRITTEN + 1, 1)]),
+    (12, &[(record_at(12) + READ, 3)]),
+    (12, &[(record_at(12) + OPERAND, 253)]),
+    // What `and` writes, by each other operation.
+    (12, &[(record_at(12) + OPERATION, Add as u8)]),
+    (12, &[(record_at(12) + OPERATION, Or as u8)]),
+    (12, &[(record_at(12) + OPERATION, Xor as u8)]),
+    (12, &[(record_at(12) + OPERATION, Larger as u8)]),
+    (12, &[(record_at(12) + OPERATION, Smaller as u8)]),
+    // Add: the operand ignored, no carry to the high byte, the largest value kept, modulo
+    // 65,535.
+    (12, &applied(Add, 9, 5, 5)),
+    (12, &applied(Add, 1, 255, 0)),
+    (12, &applied(Add, 1, 65535, 65535)),
+    (12, &applied(Add, 1, 65535, 1)),
+    (12, &applied(Add, 255, 65535, 255)),
+    // And: the operand ignored, its sign spread over the high byte.
+    (12, &applied(And, 0, 7, 7)),
+    (12, &applied(And, 255, 65535, 65535)),
+    // Or: the high byte cleared, added.
+    (12, &applied(Or, 255, 256, 255)),
+    (12, &applied(Or, 4, 5, 9)),
+    // Exclusive or: as `or`, both bytes turned.
+    (12, &applied(Xor, 255, 255, 255)),
+    (12, &applied(Xor, 255, 65535, 0)),
+    // Larger: the smaller one, compared as signed, more than two equal ones.
+    (12, &applied(Larger, 255, 254, 254)),
+    (12, &applied(Larger, 255, 65535, 255)),
+    (12, &applied(Larger, 9, 9, 10)),
+    // Smaller: the larger one, compared as signed, less than two equal ones.
+    (12, &applied(Smaller, 255, 256, 256)),
+    (12, &applied(Smaller, 255, 65535, 65535)),
+    (12, &applied(Smaller, 1, 1, 0)),
+];
+
 const ANNOTATIONS_BREACHES: RecordBreaches = &[
     // Both acquires.
     (0, &[(record_at(0) + FLAGS, 0b0011)]),
@@ -242,9 +330,9 @@ const DEPENDENCIES_BREACHES: RecordBreaches = &[
     (8, &[(record_at(8) + CONTROL, 1 << 0 | 1 << 5)]),
     // No event of the test: the first number past the events, and bit 15.
     (0, &[(record_at(0) + ADDRESS + 1, 1 << 7)]),
-    (8, &[(record_at(8) + DATA + 1, 1 << 4)]),
+    (8, &[(record_at(8) + DATA + 1, 1 << 5)]),
     (8, &[(record_at(8) + DATA + 1, 1 << 7)]),
-    (8, &[(record_at(8) + CONTROL + 1, 1 << 4)]),
+    (8, &[(record_at(8) + CONTROL + 1, 1 << 5)]),
     (11, &[(record_at(11) + CONTROL + 1, 1 << 7)]),
     // A plain store.
     (7, &[(record_at(7) + ADDRESS, 1 << 1)]),

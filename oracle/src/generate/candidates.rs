@@ -2,6 +2,7 @@
 
 use super::breaches::{base, base_block, breaches};
 use super::cases::*;
+use super::operations::{mixed_operation_cases, operation_cases};
 use super::orders::*;
 use super::prng::Prng;
 use super::random::random_table;
@@ -64,21 +65,7 @@ pub fn make_candidates() -> Calls {
     load_values(&mut calls);
     fences(&mut calls);
     annotations(&mut calls);
-    for (name, test) in [litmus::all(), releasing_amos()].concat() {
-        every_order(&mut calls, name, &test);
-        every_pair(&mut calls, name, &test);
-    }
-    let families = [
-        location_cases(),
-        fence_cases(),
-        annotation_cases(),
-        dependency_cases(),
-        forwarding_cases(),
-        later_write_cases(),
-        atomicity_cases(),
-        value_cases(),
-    ];
-    for (name, test) in families.concat() {
+    for (name, test) in cases() {
         every_order(&mut calls, name, &test);
         every_pair(&mut calls, name, &test);
     }
@@ -96,6 +83,26 @@ pub fn make_candidates() -> Calls {
         random_calls(&mut calls, &mut prng);
     }
     calls
+}
+
+/// Tests of which every order and every pair are asked for.
+fn cases() -> Vec<Case> {
+    let families = [
+        litmus::all(),
+        releasing_amos(),
+        counters(),
+        location_cases(),
+        fence_cases(),
+        annotation_cases(),
+        dependency_cases(),
+        forwarding_cases(),
+        later_write_cases(),
+        atomicity_cases(),
+        value_cases(),
+        operation_cases(),
+        mixed_operation_cases(),
+    ];
+    families.concat()
 }
 
 pub fn list_candidates() -> String {

@@ -4,6 +4,7 @@ pub mod breaches;
 pub mod candidates;
 pub mod cases;
 pub mod damage;
+pub mod operations;
 pub mod orders;
 pub mod prng;
 pub mod random;
@@ -14,8 +15,9 @@ pub mod writes;
 #[cfg(test)]
 mod tests {
     use crate::candidates::{LEND, RETURNED, RULES, VERDICT};
+    use crate::operation::Operation;
     use crate::stream::{Malformed, Stream};
-    use crate::table::{read, Kind, RELEASE_RCPC, RELEASE_RCSC};
+    use crate::table::{read, Event, Kind, RELEASE_RCPC, RELEASE_RCSC};
     use crate::walks::{SEARCH, WALK};
 
     /// The blocks that a stream of calls lends.
@@ -45,14 +47,14 @@ mod tests {
         Ok(blocks)
     }
 
-    /// How many good blocks have an AMO with just these flags.
-    fn with_amo(blocks: &[&[u8]], flags: u8) -> usize {
+    /// How many good blocks have an AMO that is as asked.
+    fn with_amo(blocks: &[&[u8]], is_asked: impl Fn(&Event) -> bool) -> usize {
         let tables = blocks.iter().filter_map(|block| read(block).ok());
-        tables.filter(|t| t.events.iter().any(|e| e.kind == Kind::Amo && e.flags == flags)).count()
+        tables.filter(|t| t.events.iter().any(|e| e.kind == Kind::Amo && is_asked(e))).count()
     }
 
     #[test]
-    fn each_stream_has_amos_with_either_release_alone() {
+    fn each_stream_has_amos_with_either_release_alone_and_with_each_operation() {
         let readings = super::readings::make_readings();
         let candidates = super::candidates::make_candidates().stream;
         let walks = super::walks::make_walks();
@@ -62,8 +64,12 @@ mod tests {
             lent(&walks).expect("the stream is whole"),
         ];
         for blocks in streams {
-            assert!(with_amo(&blocks, RELEASE_RCPC) >= 4);
-            assert!(with_amo(&blocks, RELEASE_RCSC) >= 4);
+            for release in [RELEASE_RCPC, RELEASE_RCSC] {
+                assert!(with_amo(&blocks, |amo| amo.flags == release) >= 4);
+            }
+            for operation in Operation::SOME {
+                assert!(with_amo(&blocks, |amo| amo.operation == operation) >= 4);
+            }
         }
     }
 }

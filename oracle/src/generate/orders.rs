@@ -1,8 +1,10 @@
 //! Orders of a table's memory events, and outcomes that orders have.
 
 use super::prng::Prng;
-use crate::rules::{determined_returns, first_broken, last_value, steady_rules, value_of, Axiom};
-use crate::table::{names_location, Table};
+use crate::rules::{
+    determined_returns, first_broken, last_value, steady_rules, value_of, Axiom, Write,
+};
+use crate::table::{names_location, Kind, Table};
 
 /// How many random orders are tried for a lawful one.
 const TRIES: usize = 40;
@@ -92,16 +94,53 @@ pub fn bytes(events: &[usize]) -> Vec<u8> {
     events.iter().map(|&event| event as u8).collect()
 }
 
-/// Makes the table state the values that an order gives.
+/// Makes the table state the values that an order gives, one that no steady rule speaks
+/// against. AMOs come first, for what they write may depend on what they read; by rule 1 each
+/// returns from a write before it in the order. A load may return from one after it.
 pub fn state_outcome(table: &mut Table, order: &[usize]) {
-    for (reader, write) in determined_returns(table, order).into_iter().enumerate() {
-        if let Some(write) = write {
-            table.events[reader].read = value_of(table, write, reader);
+    let returns = determined_returns(table, order);
+    let is_amo = |event: &usize| table.events[*event].kind == Kind::Amo;
+    let (amos, others): (Vec<usize>, Vec<usize>) = order.iter().copied().partition(is_amo);
+    for reader in [amos, others].concat() {
+        if let Some(write) = returns[reader] {
+            state_read(table, reader, write);
         }
     }
     for location in 0..table.locations {
         if names_location(table.stated, location) {
             table.finals[location] = last_value(table, order, location);
+        }
+    }
+}
+
+/// Makes a reader state the value of a write, and write what its operation makes of it.
+fn state_read(table: &mut Table, reader: usize, write: Write) {
+    let read = value_of(table, write, reader);
+    let event = &mut table.events[reader];
+    event.read = read;
+    event.written = event.operation.applied(read, event.operand).unwrap_or(event.written);
+}
+
+#[cfg(test)]
+mod tests {
+    use super::*;
+    use crate::encode::encode;
+    use crate::generate::random::any_table;
+    use crate::rules::is_witness;
+    use crate::table::read;
+
+    const TABLES: usize = 200;
+
+    #[test]
+    fn a_lawful_order_is_a_witness_of_the_outcome_that_it_gives() {
+        let mut prng = Prng::new(1);
+        for _ in 0..TABLES {
+            let mut table = any_table(&mut prng);
+            if let Some(order) = lawful_order(&mut prng, &table) {
+                state_outcome(&mut table, &order);
+                assert!(is_witness(&table, &order));
+            }
+            assert_eq!(read(&encode(&table)), Ok(table));
         }
     }
 }

@@ -3,6 +3,7 @@
 use super::prng::Prng;
 use crate::layout::*;
 use crate::litmus;
+use crate::operation::Operation;
 use crate::table::{
     annotations_broken, may_be_depended_on, names_location, Event, Kind, Table, ALL_FLAGS,
 };
@@ -74,7 +75,8 @@ fn random_event(prng: &mut Prng, table: &Table, values: usize, needs_memory: boo
     let read = prng.below(values) as u16;
     let written = prng.below(values) as u16;
     match *prng.pick(&KINDS) {
-        Kind::Amo => litmus::amo(hart, location, read, written),
+        Kind::Amo if prng.one_in(2) => litmus::amo(hart, location, read, written),
+        Kind::Amo => random_operation(prng, hart, location, read),
         Kind::Lr => litmus::lr(hart, location, read),
         Kind::Store => litmus::store(hart, location, written),
         Kind::Sc => match open_lr(table, hart) {
@@ -85,6 +87,17 @@ fn random_event(prng: &mut Prng, table: &Table, values: usize, needs_memory: boo
         Kind::FenceTso if !needs_memory => litmus::fence_tso(hart),
         Kind::Load | Kind::Fence | Kind::FenceTso => litmus::load(hart, location, read),
     }
+}
+
+/// An AMO with an operation, which gives the value written.
+fn random_operation(prng: &mut Prng, hart: usize, location: usize, read: u16) -> Event {
+    let operation = *prng.pick(&Operation::SOME);
+    let operand = match prng.below(4) {
+        0 | 1 => prng.below(SMALL_VALUES) as u8,
+        2 => u8::MAX,
+        _ => prng.bits() as u8,
+    };
+    litmus::amo_with(hart, location, read, operation, operand)
 }
 
 /// The hart's latest LR or SC, if that is an LR: an SC to its location may follow.

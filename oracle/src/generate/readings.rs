@@ -1,6 +1,8 @@
 //! The stored stream of `readings`: valid tables, and breaches alone and together.
 
 use super::breaches::{base_block, breaches, Breach};
+use super::damage::operation_byte;
+use super::operations::operation_edges;
 use super::prng::Prng;
 use super::random::{any_table, random_table};
 use crate::encode::{encode, seal};
@@ -24,6 +26,7 @@ pub fn make_readings() -> Vec<u8> {
         litmus::all().iter().map(|(_, test)| encode(test)).collect(),
         shapes(&mut prng),
         annotations(),
+        operation_edges().iter().map(encode).collect(),
         dependencies(),
         pairings(),
         limits(&mut prng),
@@ -178,8 +181,8 @@ fn limits(prng: &mut Prng) -> Vec<Vec<u8>> {
         changed(&largest, &[(HARTS_AT, 5)]),
         changed(&largest, &[(LOCATIONS_AT, 9)]),
         changed(&largest, &[(EVENTS_AT, 17)]),
-        changed(&largest, &[(record_at(15) + ZEROS.start, 1)]),
-        changed(&largest, &[(record_at(15) + ZEROS.end - 1, 1)]),
+        changed(&largest, &[(record_at(15) + OPERATION, 7)]),
+        changed(&largest, &[(record_at(15) + OPERAND, 1)]),
         encode(&one),
         changed(&one, &[(HARTS_AT, 0)]),
         changed(&one, &[(HARTS_AT, 4)]),
@@ -320,11 +323,15 @@ fn fences_only() -> Vec<Vec<u8>> {
     ]
 }
 
-/// A valid table with one random byte changed: by turns any byte, or one before the tail.
+/// A valid table with one random byte changed: by turns any byte, one of what an AMO does, or
+/// one before the tail.
 fn damaged_table(prng: &mut Prng, number: usize) -> Vec<u8> {
     let table = any_table(prng);
-    let end = if number.is_multiple_of(4) { CHECK_AT } else { TAIL_ZEROS.start };
-    let at = prng.below(end);
+    let at = match number % 4 {
+        0 => prng.below(CHECK_AT),
+        1 => operation_byte(prng, &table),
+        _ => prng.below(TAIL_ZEROS.start),
+    };
     let value = prng.bits() as u8;
     changed(&table, &[(at, value)])
 }

@@ -1,6 +1,7 @@
 //! The stored stream of `walks`.
 
 use super::breaches::{base, base_block, breaches};
+use super::operations::{mixed_operation_cases, operation_cases};
 use super::orders::{bytes, lawful_order, linear_extension, permutation, state_outcome};
 use super::prng::Prng;
 use super::random::random_table;
@@ -71,10 +72,13 @@ pub fn make_walks() -> Vec<u8> {
     let prng = &mut Prng::new(SEED);
     let mut calls =
         Calls { stream: Vec::new(), block: Vec::new(), memory_events: 0, walk: Walk::default() };
-    for (_, test) in [litmus::all(), releasing_amos()].concat() {
+    for (_, test) in [litmus::all(), releasing_amos(), counters()].concat() {
         for way in WAYS {
             way(&mut calls, prng, &test);
         }
+    }
+    for (_, test) in [operation_cases(), mixed_operation_cases()].concat() {
+        walk_by_witnesses(&mut calls, prng, &test);
     }
     for number in 0..RANDOM_TABLES {
         let table = small_table(prng);

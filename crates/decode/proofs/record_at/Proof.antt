@@ -58,8 +58,20 @@ add-word-at-2 c = search needs
 word-at-requires-2 : tie.Need-word-at-requires-2
 word-at-requires-2 c κs = search needs
 
+add-byte-at-5 : tie.Need-add-byte-at-5
+add-byte-at-5 c = search needs
+
+byte-at-requires-5 : tie.Need-byte-at-requires-5
+byte-at-requires-5 c κs = search needs
+
+add-byte-at-6 : tie.Need-add-byte-at-6
+add-byte-at-6 c = search needs
+
+byte-at-requires-6 : tie.Need-byte-at-requires-6
+byte-at-requires-6 c κs = search needs
+
 returns : tie.Need-returns
-returns c = cc (add-zero (c .before .before .before .before .before .before .before .before .before .before .args .at))
+returns c = cc (add-zero (c .before .before .before .before .before .before .before .before .before .before .before .before .args .at))
 
 pub record-at-spec : {M : Type 1} → statement M
 record-at-spec =
@@ -83,4 +95,8 @@ record-at-spec =
     word-at-requires
     add-word-at-2
     word-at-requires-2
+    add-byte-at-5
+    byte-at-requires-5
+    add-byte-at-6
+    byte-at-requires-6
     returns)

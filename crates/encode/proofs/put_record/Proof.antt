@@ -3,7 +3,7 @@ use mathlib.Core.List.{_++_}
 use mathlib.Core.Path.{_∙_}
 use native.Mathlib.Omega.{arith}
 use borrow.Author.Needs.{needs}
-use Rattle.encode.specs.Encoded.{two, codeBytes, maskBytes, fieldBytes}
+use Rattle.encode.specs.Encoded.{two, codeBytes, maskBytes, operationBytes, recordBytes}
 use Rattle.encode.proofs.PutLaws.{sets-more}
 use Rattle.encode.proofs.put_record.Statement.{statement}
 use Rattle.encode.proofs.put_record.Tie as tie
@@ -32,22 +32,31 @@ cast-put-word-2 c = search needs
 put-word-requires-2 : tie.Need-put-word-requires-2
 put-word-requires-2 c κs = search needs
 
+put-operation-requires : tie.Need-put-operation-requires
+put-operation-requires c κs = search needs
+
 same-length : tie.Need-same-length
 same-length c = search needs
 
 returns : tie.Need-returns
-unfolding fieldBytes
+unfolding recordBytes
 returns c =
-    let a = c .before .before .before .before .before .before .before .before .before .before .before .before .before .before .before .before .before .before .before .args in
+    let at-written = c .before .before .before .before .before .before in
+    let at-read = at-written .before .before .before .before .before in
+    let at-masks = at-read .before .before .before .before .before in
+    let at-codes = at-masks .before .before .before .before in
+    let a = at-codes .before .before .before .args in
     let l = a .block .now in
     let e = a .e in
-    let codes = c .before .before .before .before .before .before .before .before .before .before .before .before .before .before .before .before .put-codes in
-    let masks = c .before .before .before .before .before .before .before .before .before .before .before .before .put-masks in
-    let read = c .before .before .before .before .before .before .before .put-word in
+    let codes = at-codes .put-codes in
+    let masks = at-masks .put-masks in
+    let read = at-read .put-word in
+    let written = at-written .put-word2 in
     let two-parts = masks .ensures ∙ sets-more (codeBytes e) (maskBytes e) l (codes .last .0) (a .at) (a .at + 4) (codes .ensures) (omega arith) in
     let three-parts = read .ensures ∙ sets-more (codeBytes e ++ maskBytes e) (two (e .read)) l (masks .last .0) (a .at) (a .at + 10) two-parts (omega arith) in
-    c .before .before .put-word2 .ensures
-    ∙ sets-more (codeBytes e ++ maskBytes e ++ two (e .read)) (two (e .written)) l (read .last .0) (a .at) (a .at + 12) three-parts (omega arith)
+    let four-parts = written .ensures ∙ sets-more (codeBytes e ++ maskBytes e ++ two (e .read)) (two (e .written)) l (read .last .0) (a .at) (a .at + 12) three-parts (omega arith) in
+    c .before .before .put-operation .ensures
+    ∙ sets-more (codeBytes e ++ maskBytes e ++ two (e .read) ++ two (e .written)) (operationBytes e) l (written .last .0) (a .at) (a .at + 14) four-parts (omega arith)
 
 pub put-record-spec : {M : Type 1} → statement M
 put-record-spec =
@@ -61,5 +70,6 @@ put-record-spec =
     add-put-word-2
     cast-put-word-2
     put-word-requires-2
+    put-operation-requires
     same-length
     returns)

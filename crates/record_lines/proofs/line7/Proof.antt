@@ -22,6 +22,15 @@ value-not-zero-requires c κs = search needs
 fence-not-zero-requires : tie.Need-fence-not-zero-requires
 fence-not-zero-requires c κs = search needs
 
+operation-out-of-range-requires : tie.Need-operation-out-of-range-requires
+operation-out-of-range-requires c κs = search needs
+
+operand-not-zero-requires : tie.Need-operand-not-zero-requires
+operand-not-zero-requires c κs = search needs
+
+not-applied-requires : tie.Need-not-applied-requires
+not-applied-requires c κs = search needs
+
 returns : tie.Need-returns
 unfolding line7 event
 returns c = cc
@@ -36,4 +45,7 @@ line7-spec =
     field-out-of-range-requires
     value-not-zero-requires
     fence-not-zero-requires
+    operation-out-of-range-requires
+    operand-not-zero-requires
+    not-applied-requires
     returns)

@@ -9,18 +9,10 @@ some-not-zero-requires c κs = search needs
 some-not-zero-requires-2 : tie.Need-some-not-zero-requires-2
 some-not-zero-requires-2 c κs = search needs
 
-some-record-not-zero-requires : tie.Need-some-record-not-zero-requires
-some-record-not-zero-requires c κs = search needs
-
 returns : tie.Need-returns
 unfolding bytesNotZero
 returns c = cc
 
 pub bytes-not-zero-spec : {M : Type 1} → statement M
 bytes-not-zero-spec =
-    tie.close
-    (tie.spec
-    some-not-zero-requires
-    some-not-zero-requires-2
-    some-record-not-zero-requires
-    returns)
+    tie.close (tie.spec some-not-zero-requires some-not-zero-requires-2 returns)
