@@ -19,7 +19,7 @@ use Rattle.refusals.proofs.LineLaws.{none-here, whole-here, whole-next, whole-o
 use Rattle.refusals.proofs.PassedLaws.{refused-first, passed-first}
 use Rattle.refusals.proofs.InRange.{in-range}
 use Rattle.block.specs.Reading.{readingLines, readRefusal, readTable, tableIf}
-use Rattle.search.specs.Running.{Small}
+use Rattle.witness_walk.specs.Running.{Small}
 use Rattle.prefixes.specs.Walk.{Reply, refused}
 use Rattle.model.specs.Returns.{returnEntry, returns}
 use Rattle.model.specs.Verdict.{verdict}

@@ -16,7 +16,7 @@ ghost use Rattle.model.specs.Returns.{returns};
 ghost use Rattle.model.specs.Verdict.{verdict};
 ghost use Rattle.candidate.specs.Buffers.{writtenUnless};
 ghost use Rattle.verdict.specs.Judged.{judged, judgedOf};
-ghost use Rattle.search.specs.Running.{Small};
+ghost use Rattle.witness_walk.specs.Running.{Small};
 ghost use Rattle.search.specs.Replies.{replyOf};
 ghost use Rattle.suite_part.specs.Part.{blockOf, blockCount};
 ghost use Rattle.bench.specs.Candidate.{candidateLines, orderLines, judgedUnless, verdictOf, returnsRefusal, returnsBuffer};

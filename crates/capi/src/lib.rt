@@ -1,11 +1,11 @@
 // The bench for C: each entry on bytes, with its answer in one word of 64 bits. Nothing is required of a caller.
 use bench::PairRules;
 use refusals::Refusal;
-use search::Outcome;
 use search::Reply;
 use table::Table;
 use verdict::Axiom;
 use verdict::Verdict;
+use witness_walk::Outcome;
 ghost use Prim.Native.Nat.{_^_, _<_};
 ghost use mathlib.Core.Path.{_≡_};
 ghost use lib.ListN.{length, take};
@@ -13,7 +13,7 @@ ghost use Rattle.refusals.specs.Refusals.{refusalOf};
 ghost use Rattle.block.specs.Reading.{readRefusal, readTable};
 ghost use Rattle.writer.specs.Writing.{writeRefusal, writtenBlock};
 ghost use Rattle.verdict.specs.Judged.{axiomOf, judgedOf};
-ghost use Rattle.search.specs.Outcome.{outcomeOf};
+ghost use Rattle.witness_walk.specs.Outcome.{outcomeOf};
 ghost use Rattle.search.specs.Replies.{replyOf};
 ghost use Rattle.suite_part.specs.Part.{blockCount};
 ghost use Rattle.rules.specs.RuleMask.{rulesIn};

@@ -24,11 +24,11 @@ use Rattle.precedence.specs.Precedence.{predecessorMasks, memoryMask}
 use Rattle.precedence.proofs.PrecedenceLaws.{clean-same, memory-mask-small, memory-mask-ones}
 use Rattle.candidate.specs.CandidateLines.{startWrong, orderTooShort}
 use Rattle.candidate.specs.Buffers.{written}
-use Rattle.search.specs.declared.Outcome.{Outcome}
-use Rattle.search.specs.declared.Outcome.the-variants.{Found, NoneLeft, Spent}
-use Rattle.search.specs.Outcome.{outcomeOf, outcomeBuffer}
-use Rattle.search.specs.Running.{Small, Masked, AtMost, searchFrom, Ran}
-use Rattle.search.specs.Replies.{maxAllowance, startLines, answeredUnless, tableReply, bufferAfter}
+use Rattle.witness_walk.specs.declared.Outcome.{Outcome}
+use Rattle.witness_walk.specs.declared.Outcome.the-variants.{Found, NoneLeft, Spent}
+use Rattle.witness_walk.specs.Outcome.{outcomeOf}
+use Rattle.witness_walk.specs.Running.{Small, Masked, AtMost, searchFrom, Ran}
+use Rattle.search.specs.Replies.{outcomeBuffer, maxAllowance, startLines, answeredUnless, tableReply, bufferAfter}
 
 -- a bound on a prefix's entries may be raised
 pub at-most : (o : Outcome) (m n : ℕ) → m ≤ n → AtMost m o → AtMost n o
@@ -39,10 +39,6 @@ at-most (Spent len v) m n h a = omega arith
 -- a search from a prefix and from another that is the same
 pub ran-from : {t : Table} {p q : List ℕ} {b : ℕ} {o : Outcome} {order : List ℕ} → p ≡ q → Ran t p b o order → Ran t q b o order
 ran-from {t} {b = b} {o = o} {order = order} e r = subst (λ (l : List ℕ). Ran t l b o order) e r
-
--- an outcome that is the same
-pub ran-as : {t : Table} {p : List ℕ} {b : ℕ} {o q : Outcome} {order : List ℕ} → o ≡ q → Ran t p b q order → Ran t p b o order
-ran-as {t} {p} {b} {order = order} e r = subst (λ (x : Outcome). Ran t p b x order) (sym e) r
 
 -- a prefix handed out stands at the buffer's front, and the bytes past it stay
 front : (len : ℕ) (order out : List ℕ) → len ≤ length order →

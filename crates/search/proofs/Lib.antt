@@ -1,4 +1,2 @@
-pub mod RunLaws
-pub mod WitnessLaws
 pub mod CopyLaws
 pub mod CallLaws

@@ -1,6 +1,7 @@
 -- A search call on a table: refusals 15, 16 and 17, the reply, and what it leaves in the answer buffer.
 use Prim.Native.Nat.{ℕ}
-use mathlib.Core.List.{List, [], _∷_}
+use mathlib.Core.List.{List, [], _∷_, _++_}
+use lib.ListN.{take, drop}
 use lib.Dec.{ltb}
 use Rattle.table.specs.declared.Table.{Table}
 use Rattle.refusals.specs.Lines.{Refused, accepted, byLine, byRecord, Line, whole, firstLine}
@@ -10,9 +11,11 @@ use Rattle.prefixes.specs.Walk as walk
 use Rattle.model.specs.Prefixes.{search}
 use Rattle.candidate.specs.CandidateLines.{startWrong, orderTooShort}
 use Rattle.candidate.specs.Buffers.{written}
+use Rattle.witness_walk.specs.declared.Outcome.{Outcome}
+use Rattle.witness_walk.specs.declared.Outcome.the-variants.{Found, NoneLeft, Spent}
+use Rattle.witness_walk.specs.Outcome.{outcomeOf}
 use Rattle.search.specs.declared.Reply.{Reply}
 use Rattle.search.specs.declared.Reply.the-variants.{Refused as Declined, Answered}
-use Rattle.search.specs.Outcome.{outcomeOf}
 
 -- "allowance above 1,000,000,000"
 abbrev pub maxAllowance : ℕ
@@ -43,3 +46,9 @@ bufferAfter (walk.answered (spent p v)) out = written p out
 abbrev pub replyOf : Reply → List ℕ → walk.Reply Refused
 replyOf (Declined r) out = walk.refused (refusalOf r)
 replyOf (Answered o) out = walk.answered (outcomeOf o out)
+
+-- the buffer once an outcome's prefix, at the front of the order, is handed out
+abbrev pub outcomeBuffer : Outcome → List ℕ → List ℕ → List ℕ
+outcomeBuffer (Found len visited) order out = take len order ++ drop len out
+outcomeBuffer (NoneLeft visited) order out = out
+outcomeBuffer (Spent len visited) order out = take len order ++ drop len out

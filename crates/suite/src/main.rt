@@ -2,8 +2,8 @@
 use console::Line;
 use edition::EditionOne;
 use libc::STDIN_FILENO;
-use search::Outcome;
 use search::Reply;
+use witness_walk::Outcome;
 
 // How many prefixes a block's search may visit.
 const ALLOWANCE: u64 = 1_000_000;

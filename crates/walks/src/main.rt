@@ -1,8 +1,8 @@
 // Reads a stream of search calls, single ones and those of walks, and prints a line for each.
 use console::Input;
 use console::Line;
-use search::Outcome;
 use search::Reply;
+use witness_walk::Outcome;
 
 // A call from the start that it is given, and one from the walk's own.
 const SEARCH: u8 = b'S';

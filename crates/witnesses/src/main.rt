@@ -1,8 +1,8 @@
 // Walks all witnesses of one block of standard input: a line each, and their number at the end.
 use console::Line;
 use libc::STDIN_FILENO;
-use search::Outcome;
 use search::Reply;
+use witness_walk::Outcome;
 
 // How many prefixes a call may visit. A progress line is written when they are spent.
 const ALLOWANCE: u64 = 1_000_000;

@@ -1,6 +1,6 @@
 use Rattle.bench.proofs.EntryLaws.{table-read, small-read}
 use Rattle.bench.proofs.PairLaws.{rules-declined, rules-ruled}
-use Rattle.search.specs.Running.{Small}
+use Rattle.witness_walk.specs.Running.{Small}
 use Prim.Native.Nat.{ℕ}
 use mathlib.Core.Path.{_≡_}
 use native.Mathlib.Omega.{arith}

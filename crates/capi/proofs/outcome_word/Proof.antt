@@ -1,7 +1,7 @@
 use Rattle.capi.specs.Fits.{AnswerFits}
 use Rattle.capi.specs.Words.{answerWord}
-use Rattle.search.specs.Outcome.{outcomeOf}
-use Rattle.search.specs.declared.Outcome.{Outcome}
+use Rattle.witness_walk.specs.Outcome.{outcomeOf}
+use Rattle.witness_walk.specs.declared.Outcome.{Outcome}
 use native.Mathlib.Omega.{arith}
 use mathlib.Core.Path.{ap, subst}
 use borrow.Author.Needs.{needs}

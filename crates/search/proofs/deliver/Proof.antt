@@ -1,6 +1,6 @@
 use lib.ListN.{length}
 use Rattle.engine.specs.CleanMasks.{slots}
-use Rattle.search.specs.Running.{AtMost}
+use Rattle.witness_walk.specs.Running.{AtMost}
 use mathlib.Core.Path.{subst}
 use borrow.Author.Needs.{needs}
 use Rattle.search.proofs.deliver.Statement.{statement}

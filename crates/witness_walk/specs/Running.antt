@@ -15,9 +15,9 @@ use Rattle.engine.specs.CleanMasks.{slots, limit}
 use Rattle.engine.specs.State.{Prepared}
 use Rattle.precedence.specs.Precedence.{predecessorMasks, memoryMask}
 use Rattle.prepared.specs.Prepared.{readersOf, finalsOf, rivalMasks, ownMasks, rightMasks, writerMasks, lastingMasks}
-use Rattle.search.specs.declared.Outcome.{Outcome}
-use Rattle.search.specs.declared.Outcome.the-variants.{Found, NoneLeft, Spent}
-use Rattle.search.specs.Outcome.{outcomeOf}
+use Rattle.witness_walk.specs.declared.Outcome.{Outcome}
+use Rattle.witness_walk.specs.declared.Outcome.the-variants.{Found, NoneLeft, Spent}
+use Rattle.witness_walk.specs.Outcome.{outcomeOf}
 
 -- the counts of a table that was read
 pub record Small (t : Table) : Type 0 where

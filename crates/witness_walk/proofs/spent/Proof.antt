@@ -1,8 +1,8 @@
 use native.Mathlib.Omega.{arith}
 use lib.Count.{ones-le}
 use borrow.Author.Needs.{needs}
-use Rattle.search.proofs.spent.Statement.{statement}
-use Rattle.search.proofs.spent.Tie as tie
+use Rattle.witness_walk.proofs.spent.Statement.{statement}
+use Rattle.witness_walk.proofs.spent.Tie as tie
 
 cast-t4 : tie.Need-cast-t4
 cast-t4 c = omega (arith, ones-le 32 (c .args .placed) (omega arith))

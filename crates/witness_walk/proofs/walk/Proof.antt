@@ -12,13 +12,12 @@ use Rattle.model.specs.Witness.{isOrder, witness}
 use Rattle.engine.specs.State.{Moved, NextIs, Holds}
 use Rattle.values.specs.QuickTest.{Listed}
 use Rattle.values.proofs.OrderLaws.{order-listed}
-use Rattle.search.specs.Running.{searchFrom}
-use Rattle.search.proofs.CallLaws.{ran-as}
-use Rattle.search.proofs.WitnessLaws.{value-differs, final-room}
-use Rattle.search.proofs.RunLaws.{total-ones, held-clean, held-long, held-short, run-none, run-spent, run-found, run-on, whole-is-order, part-is-none}
+use Rattle.witness_walk.specs.Running.{searchFrom}
+use Rattle.witness_walk.proofs.WitnessLaws.{value-differs, final-room}
+use Rattle.witness_walk.proofs.RunLaws.{total-ones, held-clean, held-long, held-short, run-none, run-spent, run-found, run-on, whole-is-order, part-is-none, ran-as}
 use borrow.Author.Needs.{needs}
-use Rattle.search.proofs.walk.Statement.{statement}
-use Rattle.search.proofs.walk.Tie as tie
+use Rattle.witness_walk.proofs.walk.Statement.{statement}
+use Rattle.witness_walk.proofs.walk.Tie as tie
 
 abbrev Inv-loop : tie.InvT-loop
 Inv-loop t pred succ mem readers rivals own right finals writers lasting order₀ start budget total len₀ masks₀ visited₀ order len masks visited =

@@ -19,7 +19,8 @@ use Rattle.engine.proofs.CleanLaws.{clean-ones, clean-short}
 use Rattle.engine.proofs.EngineLaws.{step-none, step-spent, step-found, step-on}
 use Rattle.precedence.specs.Precedence.{predecessorMasks, memoryMask}
 use Rattle.precedence.proofs.PrecedenceLaws.{clean-same, masked-same, memory-mask-ones, whole-order, not-whole}
-use Rattle.search.specs.Running.{Small, Masked, searchFrom}
+use Rattle.witness_walk.specs.declared.Outcome.{Outcome}
+use Rattle.witness_walk.specs.Running.{Small, Masked, searchFrom, Ran}
 
 module _ {t : Table} {preds succs : List ℕ} {mem : ℕ} (tables : Masked t preds succs mem) where
   few : t .count < slots
@@ -87,3 +88,7 @@ whole-is-order t s p h e = whole-order t (omega (arith, s .events)) p h e
 -- one with fewer is no witness
 pub part-is-none : (t : Table) (p : List ℕ) → (length p ≡ memoryCount t → ⊥) → witness t p ≡ false
 part-is-none t p h = not-whole t p h
+
+-- an outcome that is the same
+pub ran-as : {t : Table} {p : List ℕ} {b : ℕ} {o q : Outcome} {order : List ℕ} → o ≡ q → Ran t p b q order → Ran t p b o order
+ran-as {t} {p} {b} {order = order} e r = subst (λ (x : Outcome). Ran t p b x order) (sym e) r

@@ -1,0 +1,172 @@
+// The engine's walk over a table with a counted budget, which stops at the first witness.
+use edition::EditionOne;
+use engine::Masks;
+use engine::SLOTS;
+use engine::Step;
+use table::Table;
+use verdict::Verdict;
+ghost use Prim.Native.Nat.{_≤_};
+ghost use mathlib.Core.Path.{_≡_};
+ghost use mathlib.Core.Bool.{true};
+ghost use lib.ListN.{length, take};
+ghost use lib.Count.{ones};
+ghost use Rattle.model.specs.Witness.{isOrder, witness};
+ghost use Rattle.engine.specs.CleanMasks.{slots};
+ghost use Rattle.engine.specs.State.{Holds};
+ghost use Rattle.witness_walk.specs.Running.{Small, Masked, Valued, Ran};
+
+// The prefix of Found and Spent stands at the front of the order.
+pub enum Outcome {
+    Found { len: usize, visited: u64 },
+    NoneLeft { visited: u64 },
+    Spent { len: usize, visited: u64 },
+}
+
+// The verdict for the order with the returns that it determines is "allowed".
+fn is_allowed(t: Table, gmo: &[u8], returned: &mut [u8]) -> bool
+    requires { ⌜ Small t × (length (now returned) ≡ slots) × (isOrder t (now gmo) ≡ true) ⌝ }
+    ensures { λ r. ⌜ r ≡ witness t (now (gmo .entry)) ⌝ }
+{
+    returns::determine(t, gmo, returned);
+    let n = t.count as usize;
+    match verdict::judge(t, &returned[..n], gmo) {
+        Verdict::Refused(_) => false,
+        Verdict::Broken(_) => false,
+        Verdict::Allowed => true,
+    }
+}
+
+// A whole order is a witness.
+fn is_witness(t: Table, order: &[u8; SLOTS], len: usize) -> bool
+    requires { ⌜ Small t × (length (now order) ≡ slots) × (len ≤ slots) × (isOrder t (take len (now order)) ≡ true) ⌝ }
+    ensures { λ r. ⌜ r ≡ witness t (take len (now (order .entry))) ⌝ }
+{
+    let mut returned = [0u8; SLOTS];
+    let entries: &[u8] = order;
+    is_allowed(t, &entries[..len], &mut returned)
+}
+
+// The length of a prefix is the ones of its mask.
+fn found(placed: u32, visited: u64) -> Outcome
+    ensures { λ r. ⌜ r ≡ Outcome.Found (ones placed) visited ⌝ }
+{
+    Outcome::Found {
+        len: u32::count_ones(placed) as usize,
+        visited,
+    }
+}
+
+fn spent(placed: u32, visited: u64) -> Outcome
+    ensures { λ r. ⌜ r ≡ Outcome.Spent (ones placed) visited ⌝ }
+{
+    Outcome::Spent {
+        len: u32::count_ones(placed) as usize,
+        visited,
+    }
+}
+
+// Visits the clean prefixes greater than the order's, ascending. The budget is tested once the next prefix is known and
+// before it is stored: "spent" keeps the last prefix visited, and there must be a further one. Of a whole order the values
+// are tested first: they are cheap and usually fail. The facts of the table are lent one by one, since a struct by value
+// would be copied at each call.
+fn walk(
+    t: Table,
+    pred: &[u32; SLOTS],
+    succ: &[u32; SLOTS],
+    mem: u32,
+    readers: u32,
+    rivals: &[u32; SLOTS],
+    own: &[u32; SLOTS],
+    right: &[u32; SLOTS],
+    finals: u32,
+    writers: &[u32; EditionOne::LOCATIONS],
+    lasting: &[u32; EditionOne::LOCATIONS],
+    order: &mut [u8; SLOTS],
+    start: usize,
+    first: Masks,
+    budget: u64,
+) -> Outcome
+    requires { ⌜ Masked t (now pred) (now succ) mem × Holds (now pred) mem (now order) start (first .placed) (first .can) ⌝ }
+    requires { ⌜ Valued t readers (now rivals) (now own) (now right) finals (now writers) (now lasting) ⌝ }
+    ensures { λ r. ⌜ Ran t (take start (now (order .entry))) budget r (now (order .exit)) ⌝ }
+{
+    let total = u32::count_ones(mem) as usize;
+    let mut len = start;
+    let mut masks = first;
+    let mut visited: u64 = 0;
+    loop {
+        let step = engine::next(pred, succ, mem, &*order, len, masks.placed, masks.can);
+        match step {
+            Step::End => return Outcome::NoneLeft { visited },
+            Step::Place(keep, event, after) => {
+                if visited == budget {
+                    return spent(masks.placed, visited);
+                }
+                order[keep] = event;
+                len = keep + 1;
+                masks = after;
+                visited += 1;
+            }
+        }
+        if len != total {
+            continue;
+        }
+        if !values::agree(
+            &*order,
+            len,
+            readers,
+            rivals,
+            own,
+            right,
+            finals,
+            writers,
+            lasting,
+        ) {
+            continue;
+        }
+        if is_witness(t, &*order, len) {
+            return found(masks.placed, visited);
+        }
+    }
+}
+
+// The walk, with the facts of the table that it tests values by.
+pub fn run(
+    t: Table,
+    pred: &[u32; SLOTS],
+    succ: &[u32; SLOTS],
+    mem: u32,
+    order: &mut [u8; SLOTS],
+    start: usize,
+    first: Masks,
+    budget: u64,
+) -> Outcome
+    requires { ⌜ Masked t (now pred) (now succ) mem × Holds (now pred) mem (now order) start (first .placed) (first .can) ⌝ }
+    ensures { λ r. ⌜ Ran t (take start (now (order .entry))) budget r (now (order .exit)) ⌝ }
+{
+    let readers = prepared::readers(t);
+    let rivals = prepared::rival_masks(t);
+    let own = prepared::own_masks(t);
+    let written = prepared::written_values(t);
+    let right = prepared::right_masks(t, &written);
+    let finals = prepared::finals(t);
+    let writers = prepared::writer_masks(t);
+    let lasting = prepared::lasting_masks(t, &written);
+    walk(
+        t,
+        pred,
+        succ,
+        mem,
+        readers,
+        &rivals,
+        &own,
+        &right,
+        finals,
+        &writers,
+        &lasting,
+        order,
+        start,
+        first,
+        budget,
+    )
+}
