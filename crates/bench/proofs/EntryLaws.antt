@@ -1,34 +1,31 @@
 -- From reading to each entry: what a table that was read has, and what the whole refusal is.
-use Prim.Native.Nat.{ℕ, _≤_, _<_}
+use Prim.Native.Nat.{ℕ}
 use mathlib.Core.Path.{_≡_, refl, sym, ap, subst, _∙_}
-use mathlib.Core.Bool.{true, false, not, _||_}
 use mathlib.Core.List.{List, _++_}
-use lib.ListN.{length, drop}
-use lib.Dec.{eqb}
-use borrow.Author.Tests.{lt-ltb, le-ltb, eqb-true, not-false}
-use Rattle.lists.proofs.BoolLaws.{or-off}
-use Rattle.lists.proofs.FilledLaws.{length-upTo}
 use mathlib.Core.Logic.{_≢_}
 use native.Mathlib.Omega.{arith}
 use Rattle.table.specs.declared.Table.{Table}
-use Rattle.table.specs.Events.{memoryCount}
 use Rattle.decode.specs.Decoded.{decoded}
 use Rattle.refusals.specs.Lines.{Refused, accepted, byLine, byRecord, Line, firstLine}
 use Rattle.refusals.specs.TableLines.{tableLines}
-use Rattle.refusals.proofs.LineLaws.{none-here, whole-here, whole-next, whole-off}
+use Rattle.refusals.proofs.LineLaws.{whole-off}
 use Rattle.refusals.proofs.PassedLaws.{refused-first, passed-first}
 use Rattle.refusals.proofs.InRange.{in-range}
 use Rattle.block.specs.Reading.{readingLines, readRefusal, readTable, tableIf}
-use Rattle.witness_walk.specs.Running.{Small}
+use Rattle.precedence.specs.Counts.{Small}
 use Rattle.prefixes.specs.Walk.{Reply, refused}
-use Rattle.model.specs.Returns.{returnEntry, returns}
+use Rattle.model.specs.Returns.{returns}
 use Rattle.model.specs.Verdict.{verdict}
 use Rattle.model.specs.Prefixes.{search}
-use Rattle.candidate.specs.CandidateLines.{orderLengthWrong, returnedLengthWrong, orderWrong, returnedWrong, returnsTooShort}
 use Rattle.candidate.specs.Buffers.{writtenUnless}
 use Rattle.search.specs.Replies.{startLines, answeredUnless, tableReply, bufferAfter}
 use Rattle.verdict.specs.Judged.{Judged, declined, judged}
-use Rattle.bench.specs.Candidate.{candidateLines, verdictLines, judgedUnless, verdictOf, orderLines, returnsLines, returnsRefusal, returnsBuffer}
+use Rattle.answers.specs.Candidate.{candidateLines, judgedUnless, orderLines}
+use Rattle.answers.specs.PairRules as pair
+use Rattle.answers.specs.PairRules.{Ruled, returnedLines, rulesBetween, ruledUnless}
+use Rattle.answers.proofs.PairLaws.{RuledAs}
+use Rattle.bench.specs.Candidate.{verdictLines, verdictOf, returnsLines, returnsRefusal, returnsBuffer}
+use Rattle.bench.specs.PairRules.{rulesLines, rulesOf}
 use Rattle.bench.specs.Search.{searchLines, searchRefusal, searchReply, searchBuffer}
 
 module _ (s : List ℕ) (ok : readRefusal s ≡ accepted) where
@@ -136,72 +133,24 @@ module _ (s start out : List ℕ) (b : ℕ) where
           ≡ answeredUnless (firstLine (decoded s .count) (readingLines s ++ startLines (decoded s) start out b)) (search (decoded s) start b)
       own = ap (λ (q : Refused). answeredUnless q (search (decoded s) start b)) (sym (own-lines s ok (startLines (decoded s) start out b)))
 
--- The lines of a candidate, told one by one.
-module _ (t : Table) (rf gmo : List ℕ) where
-  abbrev pub JudgedAs : Judged → Type 0
-  JudgedAs j = j ≡ judgedUnless (firstLine (t .count) (candidateLines t rf gmo)) (judged (verdict t rf gmo))
+-- The entry for the rules of a pair.
+module _ (s rf : List ℕ) (a b : ℕ) where
+  -- reading refuses
+  pub rules-declined : (q : Refused) → q ≡ readRefusal s → q ≢ accepted → pair.declined q ≡ rulesOf s rf a b
+  unfolding rulesOf rulesLines
+  rules-declined q e n = same q n ∙ ap (λ (r : Refused). ruledUnless r (rulesBetween (decoded s) rf a b)) (e ∙ sym whole)
+    where
+      whole : firstLine (decoded s .count) (readingLines s ++ returnedLines (decoded s) rf) ≡ readRefusal s
+      whole = reading-refuses s _ (λ h. n (e ∙ h))
 
-  refused-by : (n : ℕ) → byLine n ≡ firstLine (t .count) (candidateLines t rf gmo) → JudgedAs (declined (byLine n))
-  refused-by n e = ap (λ (r : Refused). judgedUnless r (judged (verdict t rf gmo))) e
+      same : (r : Refused) → r ≢ accepted → pair.declined r ≡ ruledUnless r (rulesBetween (decoded s) rf a b)
+      same accepted k = absurd (k refl)
+      same (byLine i) k = refl
+      same (byRecord i j) k = refl
 
-  pub judge-12 : (orderLengthWrong t gmo || returnedLengthWrong t rf) ≡ true → JudgedAs (declined (byLine 12))
-  unfolding candidateLines
-  judge-12 a = refused-by 12 (whole-here _ _ _ _ a)
-
-  pub judge-13 : (orderLengthWrong t gmo || returnedLengthWrong t rf) ≡ false → orderWrong t gmo ≡ true → JudgedAs (declined (byLine 13))
-  unfolding candidateLines
-  judge-13 a b = refused-by 13 (whole-next _ _ _ _ _ a (whole-here _ _ _ _ b))
-
-  module _ (a : (orderLengthWrong t gmo || returnedLengthWrong t rf) ≡ false) (b : orderWrong t gmo ≡ false) where
-    pub judge-14 : returnedWrong t rf ≡ true → JudgedAs (declined (byLine 14))
-    unfolding candidateLines
-    judge-14 d = refused-by 14 (whole-next _ _ _ _ _ a (whole-next _ _ _ _ _ b (whole-here _ _ _ _ d)))
-
-    pub judge-none : returnedWrong t rf ≡ false → (j : Judged) → j ≡ judged (verdict t rf gmo) → JudgedAs j
-    unfolding candidateLines
-    judge-none d j e =
-        e ∙ ap (λ (r : Refused). judgedUnless r (judged (verdict t rf gmo)))
-        (whole-next _ _ _ _ _ a (whole-next _ _ _ _ _ b (whole-next _ _ _ _ _ d (none-here _))))
-
--- The lines of an order whose returned list is asked for.
-module _ (t : Table) (gmo out : List ℕ) where
-  -- a refusal and a buffer are those of the lines
-  abbrev pub DeterminedAs : Refused → List ℕ → Type 0
-  DeterminedAs r after =
-      (r ≡ firstLine (t .count) (orderLines t gmo out)) × (after ≡ writtenUnless (firstLine (t .count) (orderLines t gmo out)) (returns t gmo) out)
-
-  left-alone : (n : ℕ) → byLine n ≡ firstLine (t .count) (orderLines t gmo out) → DeterminedAs (byLine n) out
-  left-alone n e = (e, ap (λ (r : Refused). writtenUnless r (returns t gmo) out) e)
-
-  pub determine-12 : orderLengthWrong t gmo ≡ true → DeterminedAs (byLine 12) out
-  unfolding orderLines
-  determine-12 a = left-alone 12 (whole-here _ _ _ _ a)
-
-  pub determine-13 : orderLengthWrong t gmo ≡ false → orderWrong t gmo ≡ true → DeterminedAs (byLine 13) out
-  unfolding orderLines
-  determine-13 a b = left-alone 13 (whole-next _ _ _ _ _ a (whole-here _ _ _ _ b))
-
-  module _ (a : orderLengthWrong t gmo ≡ false) (b : orderWrong t gmo ≡ false) where
-    pub determine-16 : length out < t .count → DeterminedAs (byLine 16) out
-    unfolding orderLines returnsTooShort
-    determine-16 d = left-alone 16 (whole-next _ _ _ _ _ a (whole-next _ _ _ _ _ b (whole-here _ _ _ _ (lt-ltb _ _ d))))
-
-    pub determine-none : t .count ≤ length out → (after : List ℕ) → after ≡ returns t gmo ++ drop (t .count) out → DeterminedAs accepted after
-    unfolding orderLines returnsTooShort returns
-    determine-none d after e = (
-      none,
-      e ∙ ap (λ (n : ℕ). returns t gmo ++ drop n out) (sym (length-upTo (t .count) (returnEntry t gmo)))
-          ∙ ap (λ (r : Refused). writtenUnless r (returns t gmo) out) none,
-    )
-      where
-        none : accepted ≡ firstLine (t .count) (orderLines t gmo out)
-        none = whole-next _ _ _ _ _ a (whole-next _ _ _ _ _ b (whole-next _ _ _ _ _ (le-ltb _ _ d) (none-here _)))
-
--- the tests of lengths, as the code makes them
-pub order-length-wrong : (t : Table) (gmo : List ℕ) (n : ℕ) → n ≡ memoryCount t → not (eqb (length gmo) n) ≡ orderLengthWrong t gmo
-unfolding orderLengthWrong
-order-length-wrong t gmo n e = ap (λ (m : ℕ). not (eqb (length gmo) m)) e
-
-pub returned-length : (t : Table) (rf gmo : List ℕ) → (orderLengthWrong t gmo || returnedLengthWrong t rf) ≡ false → length rf ≡ t .count
-unfolding returnedLengthWrong
-returned-length t rf gmo h = eqb-true _ _ (not-false _ (or-off (orderLengthWrong t gmo) _ h .1))
+  -- it doesn't: the table's lines and rules decide
+  pub rules-ruled : (t : Table) (r : Ruled) → readRefusal s ≡ accepted → t ≡ decoded s → RuledAs t rf a b r → r ≡ rulesOf s rf a b
+  unfolding rulesOf rulesLines
+  rules-ruled t r ok e h =
+      subst (λ (x : Table). RuledAs x rf a b r) e h
+      ∙ sym (ap (λ (q : Refused). ruledUnless q (rulesBetween (decoded s) rf a b)) (own-lines s ok (returnedLines (decoded s) rf)))

@@ -1,4 +1,3 @@
 pub mod EntryLaws
 pub mod ReplyLaws
 pub mod Demand3Laws
-pub mod PairLaws

@@ -1,51 +1,15 @@
--- "ask by itself whether a is before b, of a table and a returned list": the whole set of rules, of any bytes, list and numbers.
+-- The entry for the rules of a pair, of any bytes, list and numbers: refusals 1 to 11, 12 and 14, and the set.
 use Prim.Native.Nat.{ℕ}
-use mathlib.Core.Bool.{Bool, true, false, _&&_}
-use mathlib.Core.List.{List, [], _∷_, _++_}
-use Rattle.table.specs.declared.Table.{Table}
-use Rattle.table.specs.Events.{po}
+use mathlib.Core.List.{List, _++_}
 use Rattle.decode.specs.Decoded.{decoded}
-use Rattle.refusals.specs.Lines.{Refused, accepted, byLine, byRecord, Line, whole, firstLine}
-use Rattle.refusals.specs.Refusals.{refusalOf}
+use Rattle.refusals.specs.Lines.{Line, firstLine}
 use Rattle.block.specs.Reading.{readingLines}
-use Rattle.model.specs.Rules.{ruleSet}
-use Rattle.model.specs.Witness.{isMemoryEvent}
-use Rattle.rules.specs.RuleMask.{rulesIn}
-use Rattle.candidate.specs.CandidateLines.{returnedLengthWrong, returnedWrong}
-use Rattle.bench.specs.declared.PairRules.{PairRules}
-use Rattle.bench.specs.declared.PairRules.the-variants.{Refused as RefusedCase, Held}
+use Rattle.answers.specs.PairRules.{Ruled, returnedLines, rulesBetween, ruledUnless}
 
--- a pair is declined, or ordered by some rules
-pub data Ruled : Type 0 where
-  declined : Refused → Ruled
-  ruled : List ℕ → Ruled
-
--- "(refused as for a candidate)": 12 of the list, 14
-unfoldable pub returnedLines : Table → List ℕ → List Line
-returnedLines t rf = whole 12 (returnedLengthWrong t rf) ∷ whole 14 (returnedWrong t rf) ∷ []
-
--- 1 to 11, 12, 14
+-- the lines of a pair: 1 to 11, 12, 14
 unfoldable pub rulesLines : List ℕ → List ℕ → List Line
 rulesLines s rf = readingLines s ++ returnedLines (decoded s) rf
-
-abbrev pub onlyIf : Bool → List ℕ → List ℕ
-onlyIf true rs = rs
-onlyIf false rs = []
-
--- "the whole set of rules that hold .. (empty unless both are memory events of the test and a is earlier on the same hart)"
-unfoldable pub rulesBetween : Table → List ℕ → ℕ → ℕ → List ℕ
-rulesBetween t rf a b = onlyIf (isMemoryEvent t a && isMemoryEvent t b && po t a b) (ruleSet t rf a b)
-
-abbrev pub ruledUnless : Refused → List ℕ → Ruled
-ruledUnless accepted rs = ruled rs
-ruledUnless (byLine n) rs = declined (byLine n)
-ruledUnless (byRecord n k) rs = declined (byRecord n k)
 
 -- the rules of a pair
 unfoldable pub rulesOf : List ℕ → List ℕ → ℕ → ℕ → Ruled
 rulesOf s rf a b = ruledUnless (firstLine (decoded s .count) (rulesLines s rf)) (rulesBetween (decoded s) rf a b)
-
--- the code's answer in these words
-abbrev pub ruledOf : PairRules → Ruled
-ruledOf (RefusedCase r) = declined (refusalOf r)
-ruledOf (Held set) = ruled (rulesIn set)

@@ -1,5 +1,5 @@
 // Reads a stream of candidates, of pairs whose rules and of orders whose returned lists are asked for, and prints a line for each.
-use bench::PairRules;
+use answers::PairRules;
 use console::Input;
 use console::Line;
 use edition::EventNo;

@@ -25,7 +25,7 @@ use Rattle.model.specs.Witness.{witness}
 use Rattle.model.specs.Prefixes.{clean, cleanPrefixes, search}
 use Rattle.model.proofs.PrefixLaws.{clean-listed}
 use Rattle.candidate.specs.CandidateLines.{startWrong}
-use Rattle.witness_walk.specs.Running.{Small}
+use Rattle.precedence.specs.Counts.{Small}
 use Rattle.search.specs.Replies.{maxAllowance, startLines, answeredUnless}
 use Rattle.search.proofs.CallLaws.{count-small}
 use Rattle.bench.specs.Search.{searchLines, searchRefusal, searchReply}

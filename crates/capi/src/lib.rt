@@ -1,5 +1,5 @@
 // The bench for C: each entry on bytes, with its answer in one word of 64 bits. Nothing is required of a caller.
-use bench::PairRules;
+use answers::PairRules;
 use refusals::Refusal;
 use search::Reply;
 use table::Table;
@@ -17,7 +17,8 @@ ghost use Rattle.witness_walk.specs.Outcome.{outcomeOf};
 ghost use Rattle.search.specs.Replies.{replyOf};
 ghost use Rattle.suite_part.specs.Part.{blockCount};
 ghost use Rattle.rules.specs.RuleMask.{rulesIn};
-ghost use Rattle.bench.specs.PairRules.{rulesOf, ruledOf};
+ghost use Rattle.answers.specs.PairRules.{ruledOf};
+ghost use Rattle.bench.specs.PairRules.{rulesOf};
 ghost use Rattle.bench.specs.Candidate.{verdictOf, returnsRefusal, returnsBuffer};
 ghost use Rattle.bench.specs.Search.{searchReply, searchBuffer};
 ghost use Rattle.capi.specs.Words.{word, refusalWord, rulesMask, lowestOf, verdictWord, judgedWord, ruledWord, answerWord, replyWord};

@@ -27,7 +27,8 @@ use Rattle.candidate.specs.Buffers.{written}
 use Rattle.witness_walk.specs.declared.Outcome.{Outcome}
 use Rattle.witness_walk.specs.declared.Outcome.the-variants.{Found, NoneLeft, Spent}
 use Rattle.witness_walk.specs.Outcome.{outcomeOf}
-use Rattle.witness_walk.specs.Running.{Small, Masked, AtMost, searchFrom, Ran}
+use Rattle.precedence.specs.Counts.{Small}
+use Rattle.witness_walk.specs.Running.{Masked, AtMost, searchFrom, Ran}
 use Rattle.search.specs.Replies.{outcomeBuffer, maxAllowance, startLines, answeredUnless, tableReply, bufferAfter}
 
 -- a bound on a prefix's entries may be raised

@@ -10,7 +10,8 @@ ghost use mathlib.Core.List.{_++_};
 ghost use mathlib.Core.Path.{_≡_};
 ghost use lib.ListN.{length, take, drop};
 ghost use Rattle.engine.specs.CleanMasks.{slots};
-ghost use Rattle.witness_walk.specs.Running.{Small, AtMost};
+ghost use Rattle.precedence.specs.Counts.{Small};
+ghost use Rattle.witness_walk.specs.Running.{AtMost};
 ghost use Rattle.search.specs.Replies.{outcomeBuffer, tableReply, bufferAfter, replyOf};
 
 // A reply to a search call; the prefix of Found and Spent stands at the front of the answer buffer.

@@ -20,7 +20,8 @@ use Rattle.engine.proofs.EngineLaws.{step-none, step-spent, step-found, step-on
 use Rattle.precedence.specs.Precedence.{predecessorMasks, memoryMask}
 use Rattle.precedence.proofs.PrecedenceLaws.{clean-same, masked-same, memory-mask-ones, whole-order, not-whole}
 use Rattle.witness_walk.specs.declared.Outcome.{Outcome}
-use Rattle.witness_walk.specs.Running.{Small, Masked, searchFrom, Ran}
+use Rattle.precedence.specs.Counts.{Small}
+use Rattle.witness_walk.specs.Running.{Masked, searchFrom, Ran}
 
 module _ {t : Table} {preds succs : List ℕ} {mem : ℕ} (tables : Masked t preds succs mem) where
   few : t .count < slots

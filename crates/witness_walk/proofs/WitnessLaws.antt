@@ -21,7 +21,8 @@ use Rattle.values.proofs.ValueLaws.{values-agree}
 use Rattle.verdict.specs.Judged.{judged, axiomOf, judgedOf}
 use Rattle.verdict.specs.declared.Axiom.the-variants.{PreservedOrder, LoadValue, Atomicity, ValueRead, FinalValue}
 use Rattle.verdict.specs.declared.Verdict.the-variants.{Refused, Broken, Allowed}
-use Rattle.witness_walk.specs.Running.{Small, Valued}
+use Rattle.precedence.specs.Counts.{Small}
+use Rattle.witness_walk.specs.Running.{Valued}
 use Rattle.verdict.specs.declared.Axiom as axioms
 use Rattle.verdict.specs.declared.Verdict as verdicts
 

@@ -3,7 +3,6 @@ use Prim.Native.Nat.{ℕ, _≤_}
 use mathlib.Core.Path.{_≡_}
 use mathlib.Core.List.{List}
 use lib.ListN.{length}
-use Rattle.edition.specs.Limits.{maxLocations}
 use Rattle.table.specs.declared.Table.{Table}
 use Rattle.table.specs.Events.{memoryCount}
 use Rattle.prefixes.specs.Listed.{after}
@@ -11,18 +10,14 @@ use Rattle.prefixes.specs.Answer.{Answer}
 use Rattle.prefixes.specs.Statements.{seek}
 use Rattle.model.specs.Witness.{witness}
 use Rattle.model.specs.Prefixes.{cleanPrefixes}
-use Rattle.engine.specs.CleanMasks.{slots, limit}
+use Rattle.engine.specs.CleanMasks.{slots}
 use Rattle.engine.specs.State.{Prepared}
+use Rattle.precedence.specs.Counts.{Small}
 use Rattle.precedence.specs.Precedence.{predecessorMasks, memoryMask}
 use Rattle.prepared.specs.Prepared.{readersOf, finalsOf, rivalMasks, ownMasks, rightMasks, writerMasks, lastingMasks}
 use Rattle.witness_walk.specs.declared.Outcome.{Outcome}
 use Rattle.witness_walk.specs.declared.Outcome.the-variants.{Found, NoneLeft, Spent}
 use Rattle.witness_walk.specs.Outcome.{outcomeOf}
-
--- the counts of a table that was read
-pub record Small (t : Table) : Type 0 where
-  pub events : t .count ≤ limit
-  pub locations : t .locations ≤ maxLocations
 
 -- the masks are those of the table
 pub record Masked (t : Table) (preds succs : List ℕ) (mem : ℕ) : Type 0 where

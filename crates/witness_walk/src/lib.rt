@@ -13,7 +13,8 @@ ghost use lib.Count.{ones};
 ghost use Rattle.model.specs.Witness.{isOrder, witness};
 ghost use Rattle.engine.specs.CleanMasks.{slots};
 ghost use Rattle.engine.specs.State.{Holds};
-ghost use Rattle.witness_walk.specs.Running.{Small, Masked, Valued, Ran};
+ghost use Rattle.precedence.specs.Counts.{Small};
+ghost use Rattle.witness_walk.specs.Running.{Masked, Valued, Ran};
 
 // The prefix of Found and Spent stands at the front of the order.
 pub enum Outcome {

@@ -1,6 +1,5 @@
-use Rattle.bench.proofs.EntryLaws.{table-read, small-read}
-use Rattle.bench.proofs.PairLaws.{rules-declined, rules-ruled}
-use Rattle.witness_walk.specs.Running.{Small}
+use Rattle.bench.proofs.EntryLaws.{table-read, small-read, rules-declined, rules-ruled}
+use Rattle.precedence.specs.Counts.{Small}
 use Prim.Native.Nat.{ℕ}
 use mathlib.Core.Path.{_≡_}
 use native.Mathlib.Omega.{arith}

@@ -1,5 +1,5 @@
 use Rattle.bench.proofs.EntryLaws.{table-read, small-read, verdict-declined, verdict-judged}
-use Rattle.witness_walk.specs.Running.{Small}
+use Rattle.precedence.specs.Counts.{Small}
 use Prim.Native.Nat.{ℕ}
 use mathlib.Core.Path.{_≡_}
 use native.Mathlib.Omega.{arith}

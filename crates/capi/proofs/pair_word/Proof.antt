@@ -1,6 +1,6 @@
 use Rattle.capi.specs.Words.{word, ruledWord}
-use Rattle.bench.specs.PairRules.{ruledOf}
-use Rattle.bench.specs.declared.PairRules.{PairRules}
+use Rattle.answers.specs.PairRules.{ruledOf}
+use Rattle.answers.specs.declared.PairRules.{PairRules}
 use mathlib.Core.Path.{sym, ap, _∙_}
 use Prim.Native.Nat.{ℕ}
 use borrow.Author.Needs.{needs}

@@ -1,23 +1,19 @@
--- The rules of a pair: when there are none, what the whole refusal is.
+-- The rules of a pair of a table: when there are none, and what the answer is, once the lines are known.
 use Prim.Native.Nat.{ℕ, _≤_, _<_}
-use mathlib.Core.Path.{_≡_, refl, sym, ap, subst, _∙_}
+use mathlib.Core.Path.{_≡_, refl, sym, ap, _∙_}
 use mathlib.Core.Bool.{Bool, true, false, _&&_}
-use mathlib.Core.List.{List, [], _++_}
-use mathlib.Core.Logic.{_≢_}
+use mathlib.Core.List.{List, []}
 use lib.Dec.{eqb, ltb}
 use borrow.Author.Tests.{lt-ltb, le-ltb}
 use Rattle.lists.proofs.BoolLaws.{and-left, and-right}
 use Rattle.table.specs.declared.Table.{Table}
 use Rattle.table.specs.Events.{memory, po, hart}
-use Rattle.decode.specs.Decoded.{decoded}
-use Rattle.refusals.specs.Lines.{Refused, accepted, byLine, byRecord, firstLine}
+use Rattle.refusals.specs.Lines.{Refused, byLine, firstLine}
 use Rattle.refusals.proofs.LineLaws.{none-here, whole-here, whole-next}
-use Rattle.block.specs.Reading.{readingLines, readRefusal}
 use Rattle.model.specs.Rules.{ruleSet}
 use Rattle.model.specs.Witness.{isMemoryEvent}
 use Rattle.candidate.specs.CandidateLines.{returnedLengthWrong, returnedWrong}
-use Rattle.bench.specs.PairRules.{Ruled, declined, ruled, returnedLines, rulesLines, onlyIf, rulesBetween, ruledUnless, rulesOf}
-use Rattle.bench.proofs.EntryLaws.{own-lines, reading-refuses}
+use Rattle.answers.specs.PairRules.{Ruled, declined, ruled, returnedLines, onlyIf, rulesBetween, ruledUnless}
 
 module _ (t : Table) (rf : List ℕ) (a b : ℕ) where
   -- the test that the definition makes of the pair, and the code's
@@ -82,25 +78,3 @@ module _ (t : Table) (rf : List ℕ) (a b : ℕ) where
   unfolding returnedLines
   pair-none d e rs h =
       ap ruled h ∙ ap (λ (r : Refused). ruledUnless r (rulesBetween t rf a b)) (whole-next _ _ _ _ _ d (whole-next _ _ _ _ _ e (none-here _)))
-
--- The entry.
-module _ (s rf : List ℕ) (a b : ℕ) where
-  -- reading refuses
-  pub rules-declined : (q : Refused) → q ≡ readRefusal s → q ≢ accepted → declined q ≡ rulesOf s rf a b
-  unfolding rulesOf rulesLines
-  rules-declined q e n = same q n ∙ ap (λ (r : Refused). ruledUnless r (rulesBetween (decoded s) rf a b)) (e ∙ sym whole)
-    where
-      whole : firstLine (decoded s .count) (readingLines s ++ returnedLines (decoded s) rf) ≡ readRefusal s
-      whole = reading-refuses s _ (λ h. n (e ∙ h))
-
-      same : (r : Refused) → r ≢ accepted → declined r ≡ ruledUnless r (rulesBetween (decoded s) rf a b)
-      same accepted k = absurd (k refl)
-      same (byLine i) k = refl
-      same (byRecord i j) k = refl
-
-  -- it doesn't: the table's lines and rules decide
-  pub rules-ruled : (t : Table) (r : Ruled) → readRefusal s ≡ accepted → t ≡ decoded s → RuledAs t rf a b r → r ≡ rulesOf s rf a b
-  unfolding rulesOf rulesLines
-  rules-ruled t r ok e h =
-      subst (λ (x : Table). RuledAs x rf a b r) e h
-      ∙ sym (ap (λ (q : Refused). ruledUnless q (rulesBetween (decoded s) rf a b)) (own-lines s ok (returnedLines (decoded s) rf)))

@@ -3,8 +3,8 @@ use native.Mathlib.Omega.{arith}
 use lib.Count.{ones, ones-le}
 use Rattle.precedence.proofs.PrecedenceLaws.{memory-mask-ones}
 use borrow.Author.Needs.{needs}
-use Rattle.bench.proofs.total.Statement.{statement}
-use Rattle.bench.proofs.total.Tie as tie
+use Rattle.answers.proofs.total.Statement.{statement}
+use Rattle.answers.proofs.total.Tie as tie
 
 memory-mask-requires : tie.Need-memory-mask-requires
 memory-mask-requires c κs = search needs

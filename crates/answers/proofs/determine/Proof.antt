@@ -1,10 +1,10 @@
 use mathlib.Core.Path.{ap, sym, _∙_}
 use mathlib.Core.Bool.{not}
 use borrow.Author.Tests.{eq-eqb, ne-eqb}
-use Rattle.bench.proofs.EntryLaws.{determine-12, determine-13, determine-16, determine-none, order-length-wrong}
+use Rattle.answers.proofs.CandidateLaws.{determine-12, determine-13, determine-16, determine-none, order-length-wrong}
 use borrow.Author.Needs.{needs}
-use Rattle.bench.proofs.determine.Statement.{statement}
-use Rattle.bench.proofs.determine.Tie as tie
+use Rattle.answers.proofs.determine.Statement.{statement}
+use Rattle.answers.proofs.determine.Tie as tie
 
 total-requires : tie.Need-total-requires
 total-requires c κs = search needs

@@ -1,10 +1,10 @@
 use mathlib.Core.Path.{sym, _∙_}
 use native.Mathlib.Omega.{arith}
 use Rattle.candidate.specs.CandidateLines.{returnedLengthWrong}
-use Rattle.bench.proofs.EntryLaws.{judge-12, judge-13, judge-14, judge-none, order-length-wrong, returned-length}
+use Rattle.answers.proofs.CandidateLaws.{judge-12, judge-13, judge-14, judge-none, order-length-wrong, returned-length}
 use borrow.Author.Needs.{needs}
-use Rattle.bench.proofs.judge.Statement.{statement}
-use Rattle.bench.proofs.judge.Tie as tie
+use Rattle.answers.proofs.judge.Statement.{statement}
+use Rattle.answers.proofs.judge.Tie as tie
 
 total-requires : tie.Need-total-requires
 total-requires c κs = search needs

@@ -1,0 +1,90 @@
+-- A candidate of a table: what the verdict and the returned list are, once its lines are known.
+use Prim.Native.Nat.{ℕ, _≤_, _<_}
+use mathlib.Core.Path.{_≡_, sym, ap, _∙_}
+use mathlib.Core.Bool.{true, false, not, _||_}
+use mathlib.Core.List.{List, _++_}
+use lib.ListN.{length, drop}
+use lib.Dec.{eqb}
+use borrow.Author.Tests.{lt-ltb, le-ltb, eqb-true, not-false}
+use Rattle.lists.proofs.BoolLaws.{or-off}
+use Rattle.lists.proofs.FilledLaws.{length-upTo}
+use Rattle.table.specs.declared.Table.{Table}
+use Rattle.table.specs.Events.{memoryCount}
+use Rattle.refusals.specs.Lines.{Refused, accepted, byLine, firstLine}
+use Rattle.refusals.proofs.LineLaws.{none-here, whole-here, whole-next}
+use Rattle.model.specs.Returns.{returnEntry, returns}
+use Rattle.model.specs.Verdict.{verdict}
+use Rattle.candidate.specs.CandidateLines.{orderLengthWrong, returnedLengthWrong, orderWrong, returnedWrong, returnsTooShort}
+use Rattle.candidate.specs.Buffers.{writtenUnless}
+use Rattle.verdict.specs.Judged.{Judged, declined, judged}
+use Rattle.answers.specs.Candidate.{candidateLines, judgedUnless, orderLines}
+
+-- The lines of a candidate, told one by one.
+module _ (t : Table) (rf gmo : List ℕ) where
+  abbrev pub JudgedAs : Judged → Type 0
+  JudgedAs j = j ≡ judgedUnless (firstLine (t .count) (candidateLines t rf gmo)) (judged (verdict t rf gmo))
+
+  refused-by : (n : ℕ) → byLine n ≡ firstLine (t .count) (candidateLines t rf gmo) → JudgedAs (declined (byLine n))
+  refused-by n e = ap (λ (r : Refused). judgedUnless r (judged (verdict t rf gmo))) e
+
+  pub judge-12 : (orderLengthWrong t gmo || returnedLengthWrong t rf) ≡ true → JudgedAs (declined (byLine 12))
+  unfolding candidateLines
+  judge-12 a = refused-by 12 (whole-here _ _ _ _ a)
+
+  pub judge-13 : (orderLengthWrong t gmo || returnedLengthWrong t rf) ≡ false → orderWrong t gmo ≡ true → JudgedAs (declined (byLine 13))
+  unfolding candidateLines
+  judge-13 a b = refused-by 13 (whole-next _ _ _ _ _ a (whole-here _ _ _ _ b))
+
+  module _ (a : (orderLengthWrong t gmo || returnedLengthWrong t rf) ≡ false) (b : orderWrong t gmo ≡ false) where
+    pub judge-14 : returnedWrong t rf ≡ true → JudgedAs (declined (byLine 14))
+    unfolding candidateLines
+    judge-14 d = refused-by 14 (whole-next _ _ _ _ _ a (whole-next _ _ _ _ _ b (whole-here _ _ _ _ d)))
+
+    pub judge-none : returnedWrong t rf ≡ false → (j : Judged) → j ≡ judged (verdict t rf gmo) → JudgedAs j
+    unfolding candidateLines
+    judge-none d j e =
+        e ∙ ap (λ (r : Refused). judgedUnless r (judged (verdict t rf gmo)))
+        (whole-next _ _ _ _ _ a (whole-next _ _ _ _ _ b (whole-next _ _ _ _ _ d (none-here _))))
+
+-- The lines of an order whose returned list is asked for.
+module _ (t : Table) (gmo out : List ℕ) where
+  -- a refusal and a buffer are those of the lines
+  abbrev pub DeterminedAs : Refused → List ℕ → Type 0
+  DeterminedAs r after =
+      (r ≡ firstLine (t .count) (orderLines t gmo out)) × (after ≡ writtenUnless (firstLine (t .count) (orderLines t gmo out)) (returns t gmo) out)
+
+  left-alone : (n : ℕ) → byLine n ≡ firstLine (t .count) (orderLines t gmo out) → DeterminedAs (byLine n) out
+  left-alone n e = (e, ap (λ (r : Refused). writtenUnless r (returns t gmo) out) e)
+
+  pub determine-12 : orderLengthWrong t gmo ≡ true → DeterminedAs (byLine 12) out
+  unfolding orderLines
+  determine-12 a = left-alone 12 (whole-here _ _ _ _ a)
+
+  pub determine-13 : orderLengthWrong t gmo ≡ false → orderWrong t gmo ≡ true → DeterminedAs (byLine 13) out
+  unfolding orderLines
+  determine-13 a b = left-alone 13 (whole-next _ _ _ _ _ a (whole-here _ _ _ _ b))
+
+  module _ (a : orderLengthWrong t gmo ≡ false) (b : orderWrong t gmo ≡ false) where
+    pub determine-16 : length out < t .count → DeterminedAs (byLine 16) out
+    unfolding orderLines returnsTooShort
+    determine-16 d = left-alone 16 (whole-next _ _ _ _ _ a (whole-next _ _ _ _ _ b (whole-here _ _ _ _ (lt-ltb _ _ d))))
+
+    pub determine-none : t .count ≤ length out → (after : List ℕ) → after ≡ returns t gmo ++ drop (t .count) out → DeterminedAs accepted after
+    unfolding orderLines returnsTooShort returns
+    determine-none d after e = (
+      none,
+      e ∙ ap (λ (n : ℕ). returns t gmo ++ drop n out) (sym (length-upTo (t .count) (returnEntry t gmo)))
+          ∙ ap (λ (r : Refused). writtenUnless r (returns t gmo) out) none,
+    )
+      where
+        none : accepted ≡ firstLine (t .count) (orderLines t gmo out)
+        none = whole-next _ _ _ _ _ a (whole-next _ _ _ _ _ b (whole-next _ _ _ _ _ (le-ltb _ _ d) (none-here _)))
+
+-- the tests of lengths, as the code makes them
+pub order-length-wrong : (t : Table) (gmo : List ℕ) (n : ℕ) → n ≡ memoryCount t → not (eqb (length gmo) n) ≡ orderLengthWrong t gmo
+unfolding orderLengthWrong
+order-length-wrong t gmo n e = ap (λ (m : ℕ). not (eqb (length gmo) m)) e
+
+pub returned-length : (t : Table) (rf gmo : List ℕ) → (orderLengthWrong t gmo || returnedLengthWrong t rf) ≡ false → length rf ≡ t .count
+unfolding returnedLengthWrong
+returned-length t rf gmo h = eqb-true _ _ (not-false _ (or-off (orderLengthWrong t gmo) _ h .1))
