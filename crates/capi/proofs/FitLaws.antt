@@ -30,7 +30,7 @@ use Rattle.search.specs.Replies.{maxAllowance, startLines, answeredUnless}
 use Rattle.search.proofs.CallLaws.{count-small}
 use Rattle.bench.specs.Search.{searchLines, searchRefusal, searchReply}
 use Rattle.bench.proofs.EntryLaws.{small-read}
-use Rattle.capi.specs.Fits.{AnswerFits, ReplyFits}
+use Rattle.answer_word.specs.Fits.{AnswerFits, ReplyFits}
 
 -- along any list of short prefixes, from a short start
 seek-fits : (goal : List ℕ → Bool) (l : List (List ℕ)) (s : List ℕ) (b n : ℕ) → length s < 256 → ((p : List ℕ) → p ∈ l → length p < 256) →

@@ -1,165 +1,13 @@
 // The bench for C: each entry on bytes, with its answer in one word of 64 bits. Nothing is required of a caller.
-use answers::PairRules;
-use refusals::Refusal;
-use search::Reply;
 use table::Table;
-use verdict::Axiom;
-use verdict::Verdict;
-use witness_walk::Outcome;
-ghost use Prim.Native.Nat.{_^_, _<_};
 ghost use mathlib.Core.Path.{_≡_};
-ghost use lib.ListN.{length, take};
-ghost use Rattle.refusals.specs.Refusals.{refusalOf};
 ghost use Rattle.block.specs.Reading.{readRefusal, readTable};
 ghost use Rattle.writer.specs.Writing.{writeRefusal, writtenBlock};
-ghost use Rattle.verdict.specs.Judged.{axiomOf, judgedOf};
-ghost use Rattle.witness_walk.specs.Outcome.{outcomeOf};
-ghost use Rattle.search.specs.Replies.{replyOf};
 ghost use Rattle.suite_part.specs.Part.{blockCount};
-ghost use Rattle.rules.specs.RuleMask.{rulesIn};
-ghost use Rattle.answers.specs.PairRules.{ruledOf};
-ghost use Rattle.bench.specs.PairRules.{rulesOf};
 ghost use Rattle.bench.specs.Candidate.{verdictOf, returnsRefusal, returnsBuffer};
+ghost use Rattle.bench.specs.PairRules.{rulesOf};
 ghost use Rattle.bench.specs.Search.{searchReply, searchBuffer};
-ghost use Rattle.capi.specs.Words.{word, refusalWord, rulesMask, lowestOf, verdictWord, judgedWord, ruledWord, answerWord, replyWord};
-ghost use Rattle.capi.specs.Fits.{AnswerFits, ReplyFits};
-
-// The case of an answer: byte 0 of its word.
-struct Case;
-
-impl Case {
-    const GOOD: u8 = 0;
-
-    const REFUSED: u8 = 1;
-
-    const PRESERVED_ORDER: u8 = 2;
-
-    const LOAD_VALUE: u8 = 3;
-
-    const ATOMICITY: u8 = 4;
-
-    const VALUE_READ: u8 = 5;
-
-    const FINAL_VALUE: u8 = 6;
-
-    const FOUND: u8 = 7;
-
-    const NONE_LEFT: u8 = 8;
-
-    const SPENT: u8 = 9;
-}
-
-// The weights of bytes 1, 2 and 3 of a word, and that of its upper half.
-const BYTE_1: u64 = 256;
-
-const BYTE_2: u64 = 65_536;
-
-const BYTE_3: u64 = 16_777_216;
-
-const UPPER_HALF: u64 = 4_294_967_296;
-
-// In the place of a record where none is named.
-const NO_RECORD: u8 = 255;
-
-fn word(kind: u8, a: u8, b: u8, d: u8, visited: u64) -> u64
-    requires { ⌜ visited < 2 ^ 32 ⌝ }
-    ensures { λ r. ⌜ r ≡ word kind a b d visited ⌝ }
-{
-    kind as u64
-        + BYTE_1 * (a as u64)
-        + BYTE_2 * (b as u64)
-        + BYTE_3 * (d as u64)
-        + UPPER_HALF * visited
-}
-
-fn refusal_word(refusal: Refusal) -> u64
-    ensures { λ r. ⌜ r ≡ refusalWord (refusalOf refusal) ⌝ }
-{
-    match refusal {
-        Refusal::None => word(Case::GOOD, 0, 0, 0, 0),
-        Refusal::Line(n) => word(Case::REFUSED, n, NO_RECORD, 0, 0),
-        Refusal::Record(n, k) => word(Case::REFUSED, n, k.0, 0, 0),
-    }
-}
-
-// The set of a pair's rules as the upper half of a word.
-fn upper_half(set: u16) -> u64
-    ensures { λ r. ⌜ r ≡ rulesMask (rulesIn set) ⌝ }
-    ensures { λ r. ⌜ r < 2 ^ 32 ⌝ }
-{
-    set as u64
-}
-
-fn lowest(set: u16) -> u8
-    ensures { λ r. ⌜ r ≡ lowestOf (rulesIn set) ⌝ }
-{
-    rules::lowest_rule(set)
-}
-
-fn axiom_word(place: Axiom) -> u64
-    ensures { λ r. ⌜ r ≡ verdictWord (axiomOf place) ⌝ }
-{
-    match place {
-        Axiom::PreservedOrder(a, b, set) => word(
-            Case::PRESERVED_ORDER,
-            a.0,
-            b.0,
-            lowest(set),
-            upper_half(set),
-        ),
-        Axiom::LoadValue(reader) => word(Case::LOAD_VALUE, reader.0, 0, 0, 0),
-        Axiom::Atomicity(lr, writer) => word(Case::ATOMICITY, lr.0, writer.0, 0, 0),
-        Axiom::ValueRead(reader) => word(Case::VALUE_READ, reader.0, 0, 0, 0),
-        Axiom::FinalValue(location) => word(Case::FINAL_VALUE, location.0, 0, 0, 0),
-    }
-}
-
-fn verdict_word(verdict: Verdict) -> u64
-    ensures { λ r. ⌜ r ≡ judgedWord (judgedOf verdict) ⌝ }
-{
-    match verdict {
-        Verdict::Refused(refusal) => refusal_word(refusal),
-        Verdict::Broken(place) => axiom_word(place),
-        Verdict::Allowed => word(Case::GOOD, 0, 0, 0, 0),
-    }
-}
-
-fn pair_word(pair: PairRules) -> u64
-    ensures { λ r. ⌜ r ≡ ruledWord (ruledOf pair) ⌝ }
-{
-    match pair {
-        PairRules::Refused(refusal) => refusal_word(refusal),
-        PairRules::Held(set) => word(Case::GOOD, 0, 0, 0, upper_half(set)),
-    }
-}
-
-// How many of the first len bytes there are: an outcome does not say that its len is within the buffer.
-fn front(out: &[u8], len: usize) -> usize
-    ensures { λ r. ⌜ r ≡ length (take len (now (out .entry))) ⌝ }
-{
-    if len < out.len() { len } else { out.len() }
-}
-
-fn outcome_word(outcome: Outcome, out: &[u8]) -> u64
-    requires { ⌜ AnswerFits (outcomeOf outcome (now out)) ⌝ }
-    ensures { λ r. ⌜ r ≡ answerWord (outcomeOf outcome (now (out .entry))) ⌝ }
-{
-    match outcome {
-        Outcome::Found { len, visited } => word(Case::FOUND, front(out, len) as u8, 0, 0, visited),
-        Outcome::NoneLeft { visited } => word(Case::NONE_LEFT, 0, 0, 0, visited),
-        Outcome::Spent { len, visited } => word(Case::SPENT, front(out, len) as u8, 0, 0, visited),
-    }
-}
-
-fn reply_word(reply: Reply, out: &[u8]) -> u64
-    requires { ⌜ ReplyFits (replyOf reply (now out)) ⌝ }
-    ensures { λ r. ⌜ r ≡ replyWord (replyOf reply (now (out .entry))) ⌝ }
-{
-    match reply {
-        Reply::Refused(refusal) => refusal_word(refusal),
-        Reply::Answered(outcome) => outcome_word(outcome, out),
-    }
-}
+ghost use Rattle.answer_word.specs.Words.{refusalWord, judgedWord, ruledWord, replyWord};
 
 // Reading a block.
 #[no_mangle]
@@ -168,7 +16,7 @@ pub extern "C" fn ct_read(block: &[u8]) -> u64
 {
     let reading = bench::read(block);
     let refusal = reading.refusal;
-    refusal_word(refusal)
+    answer_word::refusal_word(refusal)
 }
 
 // The table of a block; blank if reading refuses it.
@@ -186,7 +34,7 @@ pub extern "C" fn ct_write(t: Table, out: &mut [u8]) -> u64
     ensures { λ r. ⌜ r ≡ refusalWord (writeRefusal t (now (out .entry))) ⌝ }
     ensures { λ r. ⌜ now (out .exit) ≡ writtenBlock t (now (out .entry)) ⌝ }
 {
-    refusal_word(bench::write(t, out))
+    answer_word::refusal_word(bench::write(t, out))
 }
 
 // The verdict for a candidate.
@@ -194,7 +42,7 @@ pub extern "C" fn ct_write(t: Table, out: &mut [u8]) -> u64
 pub extern "C" fn ct_verdict(block: &[u8], returned: &[u8], order: &[u8]) -> u64
     ensures { λ r. ⌜ r ≡ judgedWord (verdictOf (now (block .entry)) (now (returned .entry)) (now (order .entry))) ⌝ }
 {
-    verdict_word(bench::verdict(block, returned, order))
+    answer_word::verdict_word(bench::verdict(block, returned, order))
 }
 
 // Every rule by which preserved program order puts a before b.
@@ -202,7 +50,7 @@ pub extern "C" fn ct_verdict(block: &[u8], returned: &[u8], order: &[u8]) -> u64
 pub extern "C" fn ct_rules(block: &[u8], returned: &[u8], a: u64, b: u64) -> u64
     ensures { λ r. ⌜ r ≡ ruledWord (rulesOf (now (block .entry)) (now (returned .entry)) a b) ⌝ }
 {
-    pair_word(bench::rules(block, returned, a, b))
+    answer_word::pair_word(bench::rules(block, returned, a, b))
 }
 
 // Writes the returned list that an order determines.
@@ -211,7 +59,7 @@ pub extern "C" fn ct_returns(block: &[u8], order: &[u8], out: &mut [u8]) -> u64
     ensures { λ r. ⌜ r ≡ refusalWord (returnsRefusal (now (block .entry)) (now (order .entry)) (now (out .entry))) ⌝ }
     ensures { λ r. ⌜ now (out .exit) ≡ returnsBuffer (now (block .entry)) (now (order .entry)) (now (out .entry)) ⌝ }
 {
-    refusal_word(bench::returns(block, order, out))
+    answer_word::refusal_word(bench::returns(block, order, out))
 }
 
 // One search call.
@@ -221,7 +69,7 @@ pub extern "C" fn ct_search(block: &[u8], start: &[u8], out: &mut [u8], allowanc
     ensures { λ r. ⌜ now (out .exit) ≡ searchBuffer (now (block .entry)) (now (start .entry)) (now (out .entry)) allowance ⌝ }
 {
     let reply = bench::search(block, start, out, allowance);
-    reply_word(reply, &*out)
+    answer_word::reply_word(reply, &*out)
 }
 
 // How many blocks a suite has; a last part block counts.

@@ -1,6 +1,6 @@
 use Rattle.capi.proofs.FitLaws.{reply-fits}
-use Rattle.capi.specs.Fits.{ReplyFits}
-use Rattle.capi.specs.Words.{replyWord}
+use Rattle.answer_word.specs.Fits.{ReplyFits}
+use Rattle.answer_word.specs.Words.{replyWord}
 use mathlib.Core.Path.{sym, ap, subst, _∙_}
 use borrow.Author.Needs.{needs}
 use Rattle.capi.proofs.ct_search.Statement.{statement}

@@ -1,11 +1,11 @@
-use Rattle.capi.specs.Words.{word, ruledWord}
+use Rattle.answer_word.specs.Words.{word, ruledWord}
 use Rattle.answers.specs.PairRules.{ruledOf}
 use Rattle.answers.specs.declared.PairRules.{PairRules}
 use mathlib.Core.Path.{sym, ap, _∙_}
 use Prim.Native.Nat.{ℕ}
 use borrow.Author.Needs.{needs}
-use Rattle.capi.proofs.pair_word.Statement.{statement}
-use Rattle.capi.proofs.pair_word.Tie as tie
+use Rattle.answer_word.proofs.pair_word.Statement.{statement}
+use Rattle.answer_word.proofs.pair_word.Tie as tie
 
 enum-known-pair : tie.Need-enum-known-pair
 enum-known-pair c = search needs

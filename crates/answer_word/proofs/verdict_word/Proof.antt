@@ -1,10 +1,10 @@
-use Rattle.capi.specs.Words.{judgedWord}
+use Rattle.answer_word.specs.Words.{judgedWord}
 use Rattle.verdict.specs.Judged.{judgedOf}
 use Rattle.verdict.specs.declared.Verdict.{Verdict}
 use mathlib.Core.Path.{ap}
 use borrow.Author.Needs.{needs}
-use Rattle.capi.proofs.verdict_word.Statement.{statement}
-use Rattle.capi.proofs.verdict_word.Tie as tie
+use Rattle.answer_word.proofs.verdict_word.Statement.{statement}
+use Rattle.answer_word.proofs.verdict_word.Tie as tie
 
 enum-known-verdict : tie.Need-enum-known-verdict
 enum-known-verdict c = search needs

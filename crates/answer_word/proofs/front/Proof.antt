@@ -3,8 +3,8 @@ use lib.ListN.{length}
 use native.Mathlib.Omega.{arith}
 use mathlib.Core.Path.{sym, ap}
 use borrow.Author.Needs.{needs}
-use Rattle.capi.proofs.front.Statement.{statement}
-use Rattle.capi.proofs.front.Tie as tie
+use Rattle.answer_word.proofs.front.Statement.{statement}
+use Rattle.answer_word.proofs.front.Tie as tie
 
 returns : tie.Need-returns
 returns c = sym (length-take-le _ _ (omega (arith, c .if1 .taken)))

@@ -1,7 +1,7 @@
-use Rattle.capi.proofs.SetLaws.{set-mask}
+use Rattle.answer_word.proofs.SetLaws.{set-mask}
 use native.Mathlib.Omega.{arith}
-use Rattle.capi.proofs.upper_half.Statement.{statement}
-use Rattle.capi.proofs.upper_half.Tie as tie
+use Rattle.answer_word.proofs.upper_half.Statement.{statement}
+use Rattle.answer_word.proofs.upper_half.Tie as tie
 
 returns : tie.Need-returns
 returns c = (set-mask _ (omega arith), omega arith)

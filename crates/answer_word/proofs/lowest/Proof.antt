@@ -1,10 +1,10 @@
-use Rattle.capi.specs.Words.{lowestOf}
+use Rattle.answer_word.specs.Words.{lowestOf}
 use Rattle.rules.proofs.MaskLaws.{lowest-in}
 use native.Mathlib.Omega.{arith}
 use mathlib.Core.Path.{_∙_}
 use borrow.Author.Needs.{needs}
-use Rattle.capi.proofs.lowest.Statement.{statement}
-use Rattle.capi.proofs.lowest.Tie as tie
+use Rattle.answer_word.proofs.lowest.Statement.{statement}
+use Rattle.answer_word.proofs.lowest.Tie as tie
 
 lowest-rule-requires : tie.Need-lowest-rule-requires
 lowest-rule-requires c κs = search needs

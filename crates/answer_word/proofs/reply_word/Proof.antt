@@ -1,11 +1,11 @@
-use Rattle.capi.specs.Fits.{ReplyFits}
-use Rattle.capi.specs.Words.{replyWord}
+use Rattle.answer_word.specs.Fits.{ReplyFits}
+use Rattle.answer_word.specs.Words.{replyWord}
 use Rattle.search.specs.Replies.{replyOf}
 use Rattle.search.specs.declared.Reply.{Reply}
 use mathlib.Core.Path.{ap, subst}
 use borrow.Author.Needs.{needs}
-use Rattle.capi.proofs.reply_word.Statement.{statement}
-use Rattle.capi.proofs.reply_word.Tie as tie
+use Rattle.answer_word.proofs.reply_word.Statement.{statement}
+use Rattle.answer_word.proofs.reply_word.Tie as tie
 
 enum-known-reply : tie.Need-enum-known-reply
 enum-known-reply c = search needs

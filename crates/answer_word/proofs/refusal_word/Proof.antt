@@ -1,10 +1,10 @@
-use Rattle.capi.specs.Words.{refusalWord}
+use Rattle.answer_word.specs.Words.{refusalWord}
 use Rattle.refusals.specs.Refusals.{refusalOf}
 use Rattle.refusals.specs.declared.Refusal.{Refusal}
 use mathlib.Core.Path.{ap}
 use borrow.Author.Needs.{needs}
-use Rattle.capi.proofs.refusal_word.Statement.{statement}
-use Rattle.capi.proofs.refusal_word.Tie as tie
+use Rattle.answer_word.proofs.refusal_word.Statement.{statement}
+use Rattle.answer_word.proofs.refusal_word.Tie as tie
 
 enum-told : tie.Need-enum-told
 enum-told c = search needs

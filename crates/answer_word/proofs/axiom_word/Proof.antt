@@ -1,11 +1,11 @@
-use Rattle.capi.specs.Words.{verdictWord}
-use Rattle.capi.proofs.SetLaws.{pair-word}
+use Rattle.answer_word.specs.Words.{verdictWord}
+use Rattle.answer_word.proofs.SetLaws.{pair-word}
 use Rattle.verdict.specs.Judged.{axiomOf}
 use Rattle.verdict.specs.declared.Axiom.{Axiom}
 use mathlib.Core.Path.{sym, ap, _∙_}
 use borrow.Author.Needs.{needs}
-use Rattle.capi.proofs.axiom_word.Statement.{statement}
-use Rattle.capi.proofs.axiom_word.Tie as tie
+use Rattle.answer_word.proofs.axiom_word.Statement.{statement}
+use Rattle.answer_word.proofs.axiom_word.Tie as tie
 
 enum-known-place : tie.Need-enum-known-place
 enum-known-place c = search needs

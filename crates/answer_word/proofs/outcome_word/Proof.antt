@@ -1,12 +1,12 @@
-use Rattle.capi.specs.Fits.{AnswerFits}
-use Rattle.capi.specs.Words.{answerWord}
+use Rattle.answer_word.specs.Fits.{AnswerFits}
+use Rattle.answer_word.specs.Words.{answerWord}
 use Rattle.witness_walk.specs.Outcome.{outcomeOf}
 use Rattle.witness_walk.specs.declared.Outcome.{Outcome}
 use native.Mathlib.Omega.{arith}
 use mathlib.Core.Path.{ap, subst}
 use borrow.Author.Needs.{needs}
-use Rattle.capi.proofs.outcome_word.Statement.{statement}
-use Rattle.capi.proofs.outcome_word.Tie as tie
+use Rattle.answer_word.proofs.outcome_word.Statement.{statement}
+use Rattle.answer_word.proofs.outcome_word.Tie as tie
 
 enum-known-outcome : tie.Need-enum-known-outcome
 enum-known-outcome c = search needs

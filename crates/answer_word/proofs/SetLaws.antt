@@ -9,7 +9,7 @@ use Rattle.model.specs.Rules.{numbered}
 use Rattle.rules.specs.RuleMask.{setMask, bitsOf, rulesIn}
 use Rattle.rules.proofs.MaskLaws.{bits-mask}
 use Rattle.model.specs.Verdict.{brokenPpo}
-use Rattle.capi.specs.Words.{word, rulesMask, lowestOf, verdictWord}
+use Rattle.answer_word.specs.Words.{word, rulesMask, lowestOf, verdictWord}
 
 double : (k m : ℕ) → 2 ^ suc k * m ≡ 2 ^ k * (2 * m)
 double k m =

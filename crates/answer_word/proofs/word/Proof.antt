@@ -1,7 +1,7 @@
-use Rattle.capi.specs.Words.{word}
+use Rattle.answer_word.specs.Words.{word}
 use borrow.Author.Needs.{needs}
-use Rattle.capi.proofs.word.Statement.{statement}
-use Rattle.capi.proofs.word.Tie as tie
+use Rattle.answer_word.proofs.word.Statement.{statement}
+use Rattle.answer_word.proofs.word.Tie as tie
 
 mul-result : tie.Need-mul-result
 mul-result c = search needs
