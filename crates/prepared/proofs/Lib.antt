@@ -2,4 +2,3 @@ pub mod GatherLaws
 pub mod FillLaws
 pub mod SortLaws
 pub mod PreparedLaws
-pub mod LeavingLaws

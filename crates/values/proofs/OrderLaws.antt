@@ -15,7 +15,7 @@ use Rattle.lists.proofs.ListLaws.{all-has}
 use Rattle.table.specs.declared.Table.{Table}
 use Rattle.table.specs.Events.{capacity, memory, memoryEvents}
 use Rattle.model.specs.Witness.{isMemoryEvent, isOrder}
-use Rattle.prepared.specs.Prepared.{initialSlot}
+use Rattle.value_masks.specs.ValueMasks.{initialSlot}
 use Rattle.lists.proofs.MemberLaws.{has-kept, has-below}
 use Rattle.values.specs.QuickTest.{Listed}
 use Rattle.values.proofs.LastLaws.{last-all}

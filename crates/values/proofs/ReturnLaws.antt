@@ -15,7 +15,8 @@ use Rattle.table.specs.declared.Table.{Table}
 use Rattle.table.specs.Events.{reads, writes, memory, sameLocation, po}
 use Rattle.model.specs.Returns.{visible}
 use Rattle.model.specs.Witness.{isMemoryEvent}
-use Rattle.prepared.specs.Prepared.{rival, ownRival, rivalsOf, ownOf, initialSlot}
+use Rattle.prepared.specs.Prepared.{rival, ownRival, rivalsOf, ownOf}
+use Rattle.value_masks.specs.ValueMasks.{initialSlot}
 use Rattle.masks.proofs.MaskOfLaws.{mask-below}
 use Rattle.values.specs.QuickTest.{Listed, visibleBy, returnBy}
 use Rattle.values.proofs.LastLaws.{last-same, Behind, behind-start, behind-more, behind-hit, behind-end}

@@ -20,11 +20,12 @@ use Rattle.model.specs.Rules.{initially, nothing, from}
 use Rattle.model.specs.Returns.{visible, returnOf, returnEntry, returns, writtenValue, finalValue}
 use Rattle.model.specs.Axioms.{breaksValueRead, breaksFinalValue, valuesRead, finalValues}
 use Rattle.model.specs.Witness.{isMemoryEvent, isOrder}
-use Rattle.prepared.specs.Prepared.{writesTo, rivalsOf, ownOf, writersOf, readersOf, finalsOf, padded, initialSlot}
-use Rattle.prepared.specs.Prepared.{leavingOf, rightOf, lastingOf, rivalMasks, ownMasks, writerMasks, rightMasks, lastingMasks}
+use Rattle.prepared.specs.Prepared.{writesTo, rivalsOf, ownOf, writersOf, readersOf, padded, rivalMasks, ownMasks, writerMasks}
+use Rattle.value_masks.specs.ValueMasks.{finalsOf, initialSlot, leavingOf, rightOf, lastingOf, rightMasks, lastingMasks}
 use Rattle.masks.proofs.MaskOfLaws.{mask-below}
-use Rattle.prepared.proofs.PreparedLaws.{entry-of, right-reads, lasting-stated}
-use Rattle.prepared.proofs.LeavingLaws.{isWrite, slotOf, leaving-same}
+use Rattle.prepared.proofs.PreparedLaws.{entry-of}
+use Rattle.value_masks.proofs.ValueMaskLaws.{right-reads, lasting-stated}
+use Rattle.value_masks.proofs.LeavingLaws.{isWrite, slotOf, leaving-same}
 use Rattle.values.specs.QuickTest.{returnBy, breaksReadBy, valuesReadBy, breaksFinalBy, finalValuesBy}
 use Rattle.values.proofs.OrderLaws.{all-imp, order-events}
 use Rattle.values.proofs.LastLaws.{last-all, last-same, last-map}

@@ -9,7 +9,7 @@ use Rattle.lists.specs.Below.{some}
 use Rattle.lists.specs.Lists.{all, distinct, before, lastOr}
 use Rattle.masks.specs.Bit.{bit}
 use Rattle.table.specs.Events.{capacity}
-use Rattle.prepared.specs.Prepared.{initialSlot}
+use Rattle.value_masks.specs.ValueMasks.{initialSlot}
 
 -- the first len entries of the array, an order, are different and have room in a mask
 pub record Listed (order : List ℕ) (len : ℕ) : Type 0 where

@@ -1,8 +1,8 @@
 // The quick test of an order's values. It takes masks in place of the table, which is copied at each call: `rivals`, `own` and
-// `right` for each event, `writers` and `lasting` for each location (crate `prepared`).
+// `right` for each event, `writers` and `lasting` for each location (crates `prepared` and `value_masks`).
 use edition::EditionOne;
-use prepared::INITIAL_SLOT;
 use table::CAPACITY;
+use value_masks::INITIAL_SLOT;
 ghost use Prim.Native.Nat.{_^_, _<_};
 ghost use mathlib.Core.Path.{_≡_};
 ghost use mathlib.Core.Bool.{_&&_};
@@ -10,7 +10,7 @@ ghost use lib.ListN.{take};
 ghost use Rattle.lists.specs.Lists.{lastOr};
 ghost use Rattle.masks.specs.Bit.{bit};
 ghost use Rattle.edition.specs.Limits.{maxLocations};
-ghost use Rattle.prepared.specs.Prepared.{initialSlot};
+ghost use Rattle.value_masks.specs.ValueMasks.{initialSlot};
 ghost use Rattle.values.specs.QuickTest.{Listed, returnBy, valuesReadBy, finalValuesBy};
 
 // What reader `r` returns from in the global memory order, the first `len` entries of `order`. Backwards, a rival counts only

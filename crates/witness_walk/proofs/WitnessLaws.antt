@@ -15,7 +15,7 @@ use Rattle.model.specs.Axioms.{valuesRead, finalValues}
 use Rattle.model.specs.Witness.{isOrder, lawful, witness}
 use Rattle.model.specs.Verdict.{allowed, verdict}
 use Rattle.model.proofs.VerdictLaws.{witness-allowed}
-use Rattle.prepared.proofs.PreparedLaws.{finals-small}
+use Rattle.value_masks.proofs.ValueMaskLaws.{finals-small}
 use Rattle.values.specs.QuickTest.{valuesReadBy, finalValuesBy}
 use Rattle.values.proofs.ValueLaws.{values-agree}
 use Rattle.verdict.specs.Judged.{judged, axiomOf, judgedOf}

@@ -14,7 +14,8 @@ use Rattle.engine.specs.CleanMasks.{slots}
 use Rattle.engine.specs.State.{Prepared}
 use Rattle.precedence.specs.Counts.{Small}
 use Rattle.precedence.specs.Precedence.{predecessorMasks, memoryMask}
-use Rattle.prepared.specs.Prepared.{readersOf, finalsOf, rivalMasks, ownMasks, rightMasks, writerMasks, lastingMasks}
+use Rattle.prepared.specs.Prepared.{readersOf, rivalMasks, ownMasks, writerMasks}
+use Rattle.value_masks.specs.ValueMasks.{finalsOf, rightMasks, lastingMasks}
 use Rattle.witness_walk.specs.declared.Outcome.{Outcome}
 use Rattle.witness_walk.specs.declared.Outcome.the-variants.{Found, NoneLeft, Spent}
 use Rattle.witness_walk.specs.Outcome.{outcomeOf}

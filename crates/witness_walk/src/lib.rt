@@ -148,11 +148,11 @@ pub fn run(
     let readers = prepared::readers(t);
     let rivals = prepared::rival_masks(t);
     let own = prepared::own_masks(t);
-    let written = prepared::written_values(t);
-    let right = prepared::right_masks(t, &written);
-    let finals = prepared::finals(t);
+    let written = value_masks::written_values(t);
+    let right = value_masks::right_masks(t, &written);
+    let finals = value_masks::finals(t);
     let writers = prepared::writer_masks(t);
-    let lasting = prepared::lasting_masks(t, &written);
+    let lasting = value_masks::lasting_masks(t, &written);
     walk(
         t,
         pred,

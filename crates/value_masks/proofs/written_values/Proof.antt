@@ -2,11 +2,11 @@ use Prim.Native.Nat.{ℕ, _-_}
 use mathlib.Core.Path.{refl}
 use native.Mathlib.Omega.{arith}
 use Rattle.table.specs.Events.{capacity, event}
 use Rattle.prepared.specs.Prepared.{padded}
 use Rattle.prepared.proofs.FillLaws.{Filled, fill-start, fill-more, fill-end}
 use borrow.Author.Needs.{needs}
-use Rattle.prepared.proofs.written_values.Statement.{statement}
-use Rattle.prepared.proofs.written_values.Tie as tie
+use Rattle.value_masks.proofs.written_values.Statement.{statement}
+use Rattle.value_masks.proofs.written_values.Tie as tie
 
 abbrev Inv-loop : tie.InvT-loop
 Inv-loop t list₀ e₀ list e = Filled (λ (k : ℕ). event t k .written) capacity (t .count) e list

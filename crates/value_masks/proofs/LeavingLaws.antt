@@ -13,9 +13,9 @@ use Rattle.table.specs.declared.Table.{Table}
 use Rattle.table.specs.Events.{capacity, event}
 use Rattle.model.specs.Rules.{initially}
 use Rattle.model.specs.Returns.{initialValue, writtenValue}
-use Rattle.prepared.specs.Prepared.{writtenValues, initialSlot, leaving, leavingOf}
+use Rattle.value_masks.specs.ValueMasks.{writtenValues, initialSlot, leaving, leavingOf}
 use Rattle.prepared.proofs.GatherLaws.{bit-if}
 use Rattle.prepared.proofs.PreparedLaws.{entry-of}
 
 -- w is an event, or the initial write
 abbrev pub isWrite : Table → ℕ → Bool

@@ -4,11 +4,11 @@ use native.Mathlib.Omega.{arith}
 use lib.Bits.{bitOr}
 use lib.ListN.{getD}
 use lib.Dec.{eqb}
-use Rattle.prepared.specs.Prepared.{leaving}
+use Rattle.value_masks.specs.ValueMasks.{leaving}
 use Rattle.prepared.proofs.GatherLaws.{Gathered, gather-start, gather-more, gather-end}
 use borrow.Author.Needs.{needs}
-use Rattle.prepared.proofs.leaving.Statement.{statement}
-use Rattle.prepared.proofs.leaving.Tie as tie
+use Rattle.value_masks.proofs.leaving.Statement.{statement}
+use Rattle.value_masks.proofs.leaving.Tie as tie
 
 abbrev Inv-loop : tie.InvT-loop
 Inv-loop written count initial value mask₀ w₀ mask w = Gathered (λ (k : ℕ). eqb (getD written k 0) value) count w mask

@@ -3,8 +3,8 @@ use native.Mathlib.Omega.{arith}
 use lib.ListN.{length, List·getD-eq-default}
 use Rattle.edition.specs.Limits.{maxLocations}
 use borrow.Author.Needs.{needs}
-use Rattle.prepared.proofs.initial_at.Statement.{statement}
-use Rattle.prepared.proofs.initial_at.Tie as tie
+use Rattle.value_masks.proofs.initial_at.Statement.{statement}
+use Rattle.value_masks.proofs.initial_at.Tie as tie
 
 cast-x : tie.Need-cast-x
 cast-x c = search needs

@@ -5,12 +5,13 @@ use mathlib.Core.Path.{sym, ap₂, _∙_}
 use native.Mathlib.Omega.{arith}
 use Rattle.table.specs.Events.{capacity, reads, location, kind, event}
 use Rattle.model.specs.Returns.{initialValue}
-use Rattle.prepared.specs.Prepared.{leaving, leavingOf, rightOf, padded}
-use Rattle.prepared.proofs.PreparedLaws.{right-reads, right-none}
+use Rattle.prepared.specs.Prepared.{padded}
+use Rattle.value_masks.specs.ValueMasks.{leaving, leavingOf, rightOf}
+use Rattle.value_masks.proofs.ValueMaskLaws.{right-reads, right-none}
 use Rattle.prepared.proofs.FillLaws.{Filled, fill-start, fill-more, fill-skip, fill-end}
 use borrow.Author.Needs.{needs}
-use Rattle.prepared.proofs.right_masks.Statement.{statement}
-use Rattle.prepared.proofs.right_masks.Tie as tie
+use Rattle.value_masks.proofs.right_masks.Statement.{statement}
+use Rattle.value_masks.proofs.right_masks.Tie as tie
 
 abbrev Inv-loop : tie.InvT-loop
 Inv-loop written t initial list₀ r₀ list r = Filled (rightOf t) capacity (t .count) r list

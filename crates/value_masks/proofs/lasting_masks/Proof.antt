@@ -6,12 +6,13 @@ use native.Mathlib.Omega.{arith}
 use lib.ListN.{getD}
 use Rattle.edition.specs.Limits.{maxLocations}
 use Rattle.model.specs.Returns.{initialValue}
-use Rattle.prepared.specs.Prepared.{leaving, leavingOf, lastingOf, padded}
-use Rattle.prepared.proofs.PreparedLaws.{lasting-stated, lasting-none}
+use Rattle.prepared.specs.Prepared.{padded}
+use Rattle.value_masks.specs.ValueMasks.{leaving, leavingOf, lastingOf}
+use Rattle.value_masks.proofs.ValueMaskLaws.{lasting-stated, lasting-none}
 use Rattle.prepared.proofs.FillLaws.{Filled, fill-start, fill-more, fill-skip, fill-end}
 use borrow.Author.Needs.{needs}
-use Rattle.prepared.proofs.lasting_masks.Statement.{statement}
-use Rattle.prepared.proofs.lasting_masks.Tie as tie
+use Rattle.value_masks.proofs.lasting_masks.Statement.{statement}
+use Rattle.value_masks.proofs.lasting_masks.Tie as tie
 
 abbrev Inv-loop : tie.InvT-loop
 Inv-loop t written initial finals list₀ x₀ list x = Filled (lastingOf t) maxLocations (t .locations) x list

@@ -1,11 +1,11 @@
 use Prim.Native.Nat.{_-_}
 use native.Mathlib.Omega.{arith}
 use Rattle.masks.specs.Bit.{bit}
-use Rattle.prepared.specs.Prepared.{finalsOf}
+use Rattle.value_masks.specs.ValueMasks.{finalsOf}
 use Rattle.prepared.proofs.GatherLaws.{Gathered, gather-start, gather-more, gather-end}
 use borrow.Author.Needs.{needs}
-use Rattle.prepared.proofs.finals.Statement.{statement}
-use Rattle.prepared.proofs.finals.Tie as tie
+use Rattle.value_masks.proofs.finals.Statement.{statement}
+use Rattle.value_masks.proofs.finals.Tie as tie
 
 abbrev Inv-loop : tie.InvT-loop
 Inv-loop t mask₀ x₀ mask x = Gathered (bit (t .stated)) (t .locations) x mask

@@ -1,0 +1,2 @@
+pub mod ValueMaskLaws
+pub mod LeavingLaws
