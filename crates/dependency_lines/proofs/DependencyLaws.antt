@@ -24,7 +24,7 @@ lacks-none t k j ec =
     (λ m l. sym (and-left _ _ (ap (λ (c : ℕ). bit c m) ec ∙ bit-zero m))))
 
 -- none of k's three masks names an event
-abbrev dependsOnNone : Table → ℕ → Bool
+abbrev pub dependsOnNone : Table → ℕ → Bool
 dependsOnNone t k = eqb (event t k .addr) 0 && eqb (event t k .«data») 0 && eqb (event t k .ctrl) 0
 
 wrong-none : (t : Table) (k : ℕ) → event t k .addr ≡ 0 → event t k .«data» ≡ 0 → event t k .ctrl ≡ 0 → line9 t k ≡ false

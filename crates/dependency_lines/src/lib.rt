@@ -64,21 +64,17 @@ fn some_lacks_control(t: Table, k: EventNo) -> bool
 }
 
 // None of the event's three masks names an event.
-fn depends_on_none(e: Event) -> bool
+pub fn depends_on_none(e: Event) -> bool
     ensures { λ r. ⌜ r ≡ (eqb (e .addr) 0 && eqb (e .«data») 0 && eqb (e .ctrl) 0) ⌝ }
 {
     (e.addr == 0) & (e.data == 0) & (e.ctrl == 0)
 }
 
-// Most events depend on none, and line 9 holds of none of these.
 pub fn line9(t: Table, k: EventNo) -> bool
     requires { ⌜ (k .0 < capacity) × (t .count ≤ capacity) ⌝ }
     ensures { λ r. ⌜ r ≡ line9 t (k .0) ⌝ }
 {
     let e = t.events[k.0 as usize];
-    if depends_on_none(e) {
-        return false;
-    }
     some_names_wrongly(t, k) | (!table::writes(e) & (e.data != 0)) | some_lacks_control(t, k)
 }
 

@@ -1,26 +1,21 @@
-// Lines 7 and 8: tests of one record's fields.
-use edition::EventNo;
+// Lines 7 and 8: tests of one record's fields. They take the event and not the table, which is copied at each call.
 use operation::Operation;
 use table::Event;
 use table::Kind;
-use table::Table;
-ghost use Prim.Native.Nat.{_<_};
 ghost use mathlib.Core.Path.{_≡_};
-ghost use mathlib.Core.Bool.{_&&_, _||_, not};
-ghost use lib.Dec.{leb, eqb};
-ghost use Rattle.table.specs.Events.{capacity, readingKind, memoryKind, store, sc};
+ghost use mathlib.Core.Bool.{_&&_, _||_};
 ghost use Rattle.table.specs.Annotations.{acquirePc, acquireSc, releasePc, releaseSc};
-ghost use Rattle.refusals.specs.TableLines.{fieldOutOfRange, valueNotZero, fenceNotZero, operationOutOfRange, operandNotZero, notApplied, line7, line8};
+ghost use Rattle.refusals.specs.TableLines.{fieldOutOfRange, valueNotZero, fenceNotZero, operationOutOfRange, operandNotZero, notApplied, fieldsWrong, annotationsWrong};
 
 // Flags have four bits.
 const FLAGS: u8 = 16;
 
-fn field_out_of_range(t: Table, e: Event) -> bool
-    ensures { λ r. ⌜ r ≡ fieldOutOfRange t e ⌝ }
+fn field_out_of_range(harts: u8, locations: u8, e: Event) -> bool
+    ensures { λ r. ⌜ r ≡ fieldOutOfRange harts locations e ⌝ }
 {
     refusals::outside(e.kind, Kind::FENCE_TSO as usize)
-        | (t.harts <= e.hart)
-        | (t.locations <= e.location.0)
+        | (harts <= e.hart)
+        | (locations <= e.location.0)
         | (FLAGS <= e.flags)
 }
 
@@ -56,12 +51,11 @@ fn not_applied(e: Event) -> bool
         & (e.written != operation::apply(e.operation, e.read, e.operand))
 }
 
-pub fn line7(t: Table, k: EventNo) -> bool
-    requires { ⌜ k .0 < capacity ⌝ }
-    ensures { λ r. ⌜ r ≡ line7 t (k .0) ⌝ }
+// Line 7 of a record, in a test with so many harts and locations.
+pub fn line7(harts: u8, locations: u8, e: Event) -> bool
+    ensures { λ r. ⌜ r ≡ fieldsWrong harts locations e ⌝ }
 {
-    let e = t.events[k.0 as usize];
-    field_out_of_range(t, e)
+    field_out_of_range(harts, locations, e)
         | value_not_zero(e)
         | fence_not_zero(e)
         | operation_out_of_range(e)
@@ -88,11 +82,10 @@ fn both_at_once(flags: u8) -> bool
         | (masks::has(flags as u32, 2) & masks::has(flags as u32, 3))
 }
 
-pub fn line8(t: Table, k: EventNo) -> bool
-    requires { ⌜ k .0 < capacity ⌝ }
-    ensures { λ r. ⌜ r ≡ line8 t (k .0) ⌝ }
+// Line 8 of a record.
+pub fn line8(e: Event) -> bool
+    ensures { λ r. ⌜ r ≡ annotationsWrong e ⌝ }
 {
-    let e = t.events[k.0 as usize];
     let acquire = acquires(e.flags);
     let release = releases(e.flags);
     let loads = (e.kind == Kind::LOAD) | (e.kind == Kind::LR);

@@ -11,8 +11,8 @@ use Rattle.edition.specs.Limits.{maxHarts, maxLocations, maxEvents}
 use Rattle.operation.specs.Operation.{noOperation, amominu, applied}
 use Rattle.table.specs.declared.Event.{Event}
 use Rattle.table.specs.declared.Table.{Table}
-use Rattle.table.specs.Events.{capacity, event, kind, reads, writes, memory, sameLocation, po, paired, readingKind, writingKind, fencingKind, load, store, amo, lr, sc, fencetso}
-use Rattle.table.specs.Annotations.{acquirePc, acquireSc, releasePc, releaseSc, flags, acquire, release}
+use Rattle.table.specs.Events.{capacity, event, kind, reads, writes, memory, sameLocation, po, paired, readingKind, writingKind, memoryKind, fencingKind, load, store, amo, lr, sc, fencetso}
+use Rattle.table.specs.Annotations.{acquirePc, acquireSc, releasePc, releaseSc, acquiring, releasing}
 use Rattle.refusals.specs.Lines.{Line, whole, record-of}
 
 -- n is not one of 1 .. most
@@ -53,9 +53,9 @@ pastNotBlank t k = leb (t .count) k && not (blank (event t k))
 unfoldable pub line6 : Table → Bool
 line6 t = some maxLocations (initialNotZero t) || some maxLocations (finalNotZero t) || some capacity (pastNotBlank t)
 
--- 7: "kind, hart, location or flags out of range"
-unfoldable pub fieldOutOfRange : Table → Event → Bool
-fieldOutOfRange t e = outside (e .kind) fencetso || leb (t .harts) (e .hart) || leb (t .locations) (e .location .0) || leb 16 (e .flags)
+-- 7: "kind, hart, location or flags out of range", in a test with so many harts and locations
+unfoldable pub fieldOutOfRange : ℕ → ℕ → Event → Bool
+fieldOutOfRange harts locations e = outside (e .kind) fencetso || leb harts (e .hart) || leb locations (e .location .0) || leb 16 (e .flags)
 
 -- "a non-reader with a value read or a non-writer with a value written that isn't zero"
 unfoldable pub valueNotZero : Event → Bool
@@ -81,25 +81,32 @@ operandNotZero e = eqb (e .operation) noOperation && not (eqb (e .operand) 0)
 unfoldable pub notApplied : Event → Bool
 notApplied e = not (eqb (e .operation) noOperation) && not (eqb (e .written) (applied (e .operation) (e .read) (e .operand)))
 
+-- one of these holds of a record
+unfoldable pub fieldsWrong : ℕ → ℕ → Event → Bool
+fieldsWrong harts locations e =
+    fieldOutOfRange harts locations e || valueNotZero e || fenceNotZero e || operationOutOfRange e || operandNotZero e || notApplied e
+
 unfoldable pub line7 : Table → ℕ → Bool
-line7 t k =
-    fieldOutOfRange t (event t k) || valueNotZero (event t k) || fenceNotZero (event t k) || operationOutOfRange (event t k)
-    || operandNotZero (event t k) || notApplied (event t k)
+line7 t k = fieldsWrong (t .harts) (t .locations) (event t k)
 
 -- 8: "both acquires or both releases at once"
-unfoldable pub bothAtOnce : Table → ℕ → Bool
-bothAtOnce t k = acquirePc (flags t k) && acquireSc (flags t k) || releasePc (flags t k) && releaseSc (flags t k)
+unfoldable pub bothAtOnce : Event → Bool
+bothAtOnce e = acquirePc (e .flags) && acquireSc (e .flags) || releasePc (e .flags) && releaseSc (e .flags)
 
 -- "a load or LR with release and no acquire": an AMO may have either alone
-unfoldable pub loadReleases : Table → ℕ → Bool
-loadReleases t k = (eqb (kind t k) load || eqb (kind t k) lr) && release t k && not (acquire t k)
+unfoldable pub loadReleases : Event → Bool
+loadReleases e = (eqb (e .kind) load || eqb (e .kind) lr) && releasing (e .flags) && not (acquiring (e .flags))
 
 -- "a plain store or SC with acquire and no release"
-unfoldable pub writerAcquires : Table → ℕ → Bool
-writerAcquires t k = (eqb (kind t k) store || eqb (kind t k) sc) && acquire t k && not (release t k)
+unfoldable pub writerAcquires : Event → Bool
+writerAcquires e = (eqb (e .kind) store || eqb (e .kind) sc) && acquiring (e .flags) && not (releasing (e .flags))
+
+-- one of these holds of a memory event
+unfoldable pub annotationsWrong : Event → Bool
+annotationsWrong e = memoryKind (e .kind) && (bothAtOnce e || loadReleases e || writerAcquires e)
 
 unfoldable pub line8 : Table → ℕ → Bool
-line8 t k = memory t k && (bothAtOnce t k || loadReleases t k || writerAcquires t k)
+line8 t k = annotationsWrong (event t k)
 
 -- one of the three masks of k names m
 unfoldable pub names : Table → ℕ → ℕ → Bool

@@ -19,6 +19,13 @@ releasePc f = bit f 2
 abbrev pub releaseSc : ℕ → Bool
 releaseSc f = bit f 3
 
+-- an acquire, a release: of either kind
+abbrev pub acquiring : ℕ → Bool
+acquiring f = acquirePc f || acquireSc f
+
+abbrev pub releasing : ℕ → Bool
+releasing f = releasePc f || releaseSc f
+
 -- "Fence flags from bit 0: pr, pw, sr, sw"
 abbrev pub pr : ℕ → Bool
 pr f = bit f 0
@@ -37,11 +44,11 @@ flags t e = event t e .flags
 
 -- e has an acquire annotation
 unfoldable pub acquire : Table → ℕ → Bool
-acquire t e = acquirePc (flags t e) || acquireSc (flags t e)
+acquire t e = acquiring (flags t e)
 
 -- e has a release annotation
 unfoldable pub release : Table → ℕ → Bool
-release t e = releasePc (flags t e) || releaseSc (flags t e)
+release t e = releasing (flags t e)
 
 -- e has an RCsc annotation
 unfoldable pub rcsc : Table → ℕ → Bool

@@ -1,6 +1,7 @@
 // Lines 5 to 11 of the table of refusals, each a test of the table, and the first that holds.
 use edition::EventNo;
 use refusals::Refusal;
+use table::Kind;
 use table::Table;
 ghost use Prim.Native.Nat.{_≤_};
 ghost use mathlib.Core.Path.{_≡_};
@@ -17,7 +18,7 @@ fn lowest7(t: Table) -> u8
 {
     let mut k: u8 = 0;
     while k < t.count {
-        if record_lines::line7(t, EventNo(k)) {
+        if record_lines::line7(t.harts, t.locations, t.events[k as usize]) {
             return k;
         }
         k += 1;
@@ -31,7 +32,7 @@ fn lowest8(t: Table) -> u8
 {
     let mut k: u8 = 0;
     while k < t.count {
-        if record_lines::line8(t, EventNo(k)) {
+        if record_lines::line8(t.events[k as usize]) {
             return k;
         }
         k += 1;
@@ -39,12 +40,17 @@ fn lowest8(t: Table) -> u8
     t.count
 }
 
+// Most events depend on none, and line 9 holds of none of these: no call, which would copy the table.
 fn lowest9(t: Table) -> u8
     requires { ⌜ t .count ≤ capacity ⌝ }
     ensures { λ r. ⌜ r ≡ lowest (t .count) (line9 t) ⌝ }
 {
     let mut k: u8 = 0;
     while k < t.count {
+        if dependency_lines::depends_on_none(t.events[k as usize]) {
+            k += 1;
+            continue;
+        }
         if dependency_lines::line9(t, EventNo(k)) {
             return k;
         }
@@ -53,12 +59,17 @@ fn lowest9(t: Table) -> u8
     t.count
 }
 
+// Line 10 holds of SCs only.
 fn lowest10(t: Table) -> u8
     requires { ⌜ t .count ≤ capacity ⌝ }
     ensures { λ r. ⌜ r ≡ lowest (t .count) (line10 t) ⌝ }
 {
     let mut k: u8 = 0;
     while k < t.count {
+        if t.events[k as usize].kind != Kind::SC {
+            k += 1;
+            continue;
+        }
         if dependency_lines::line10(t, EventNo(k)) {
             return k;
         }

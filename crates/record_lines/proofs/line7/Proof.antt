@@ -1,17 +1,7 @@
-use Rattle.table.specs.Events.{event}
-use Rattle.refusals.specs.TableLines.{line7}
+use Rattle.refusals.specs.TableLines.{fieldsWrong}
 use borrow.Author.Needs.{needs}
 use Rattle.record_lines.proofs.line7.Statement.{statement}
 use Rattle.record_lines.proofs.line7.Tie as tie
-
-cast-e : tie.Need-cast-e
-cast-e c = search needs
-
-mul-e : tie.Need-mul-e
-mul-e c = search needs
-
-element-copy-out-e : tie.Need-element-copy-out-e
-element-copy-out-e c = search needs
 
 field-out-of-range-requires : tie.Need-field-out-of-range-requires
 field-out-of-range-requires c κs = search needs
@@ -32,16 +22,13 @@ not-applied-requires : tie.Need-not-applied-requires
 not-applied-requires c κs = search needs
 
 returns : tie.Need-returns
-unfolding line7 event
+unfolding fieldsWrong
 returns c = cc
 
 pub line7-spec : {M : Type 1} → statement M
 line7-spec =
     tie.close
     (tie.spec
-    cast-e
-    mul-e
-    element-copy-out-e
     field-out-of-range-requires
     value-not-zero-requires
     fence-not-zero-requires

@@ -1,8 +1,10 @@
-use Rattle.refusals.specs.TableLines.{line10}
 use Prim.Native.Nat.{_-_}
-use mathlib.Core.Path.{sym, _∙_}
+use mathlib.Core.Path.{refl, sym, _∙_}
 use native.Mathlib.Omega.{arith}
 use Rattle.lists.proofs.ScanLaws.{Scanned, scan-start, scan-more, scan-hit, scan-end}
+use borrow.Author.Tests.{ne-eqb}
+use Rattle.table.specs.Events.{kind, event}
+use Rattle.refusals.specs.TableLines.{line10}
 use borrow.Author.Needs.{needs}
 use Rattle.table_lines.proofs.lowest10.Statement.{statement}
 use Rattle.table_lines.proofs.lowest10.Tie as tie
@@ -16,11 +18,14 @@ abbrev μ-loop : tie.MeasureT-loop
 loop-holds : tie.Need-loop-holds Inv-loop μ-loop
 loop-holds c = scan-start _ _
 
-line10-requires : tie.Need-line10-requires Inv-loop μ-loop
-line10-requires c κs = search needs
+cast-if1 : tie.Need-cast-if1 Inv-loop μ-loop
+cast-if1 c = search needs
 
-returns : tie.Need-returns Inv-loop μ-loop
-returns c = sym (scan-hit _ _ _ (c .before .before .before .before .loop .inv) (omega arith) (sym (c .before .line10 .ensures) ∙ c .if2 .taken))
+mul-if1 : tie.Need-mul-if1 Inv-loop μ-loop
+mul-if1 c = search needs
+
+element-copy-out-if1 : tie.Need-element-copy-out-if1 Inv-loop μ-loop
+element-copy-out-if1 c = search needs
 
 add-k : tie.Need-add-k Inv-loop μ-loop
 add-k c = search needs
@@ -29,10 +34,26 @@ loop-less : tie.Need-loop-less Inv-loop μ-loop
 loop-less c = search needs
 
 loop-again : tie.Need-loop-again Inv-loop μ-loop
-loop-again c = scan-more _ _ _ (c .before .before .before .before .loop .inv) (omega arith) (sym (c .before .line10 .ensures) ∙ c .if2 .left)
+unfolding line10 kind event
+loop-again c = scan-more _ _ _ (c .before .before .loop .inv) (omega arith) (rw (ne-eqb _ _ (c .if1 .taken)) refl)
+
+line10-requires : tie.Need-line10-requires Inv-loop μ-loop
+line10-requires c κs = search needs
+
+returns : tie.Need-returns Inv-loop μ-loop
+returns c = sym (scan-hit _ _ _ (c .before .before .before .before .loop .inv) (omega arith) (sym (c .before .line10 .ensures) ∙ c .if2 .taken))
+
+add-k-2 : tie.Need-add-k-2 Inv-loop μ-loop
+add-k-2 c = search needs
+
+loop-less-2 : tie.Need-loop-less-2 Inv-loop μ-loop
+loop-less-2 c = search needs
+
+loop-again-2 : tie.Need-loop-again-2 Inv-loop μ-loop
+loop-again-2 c = scan-more _ _ _ (c .before .before .before .before .loop .inv) (omega arith) (sym (c .before .line10 .ensures) ∙ c .if2 .left)
 
 returns-2 : tie.Need-returns-2 Inv-loop μ-loop
-returns-2 c = sym (scan-end _ _ _ (c .before .before .loop .inv) (omega arith))
+returns-2 c = sym (scan-end _ _ _ (c .before .loop .inv) (omega arith))
 
 pub lowest10-spec : {M : Type 1} → statement M
 lowest10-spec =
@@ -41,9 +62,15 @@ lowest10-spec =
     Inv-loop
     μ-loop
     loop-holds
-    line10-requires
-    returns
+    cast-if1
+    mul-if1
+    element-copy-out-if1
     add-k
     loop-less
     loop-again
+    line10-requires
+    returns
+    add-k-2
+    loop-less-2
+    loop-again-2
     returns-2)

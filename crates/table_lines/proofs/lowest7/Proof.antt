@@ -1,3 +1,4 @@
+use Rattle.table.specs.Events.{event}
 use Rattle.refusals.specs.TableLines.{line7}
 use Prim.Native.Nat.{_-_}
 use mathlib.Core.Path.{sym, _∙_}
@@ -16,11 +17,21 @@ abbrev μ-loop : tie.MeasureT-loop
 loop-holds : tie.Need-loop-holds Inv-loop μ-loop
 loop-holds c = scan-start _ _
 
+cast-line7 : tie.Need-cast-line7 Inv-loop μ-loop
+cast-line7 c = search needs
+
+mul-line7 : tie.Need-mul-line7 Inv-loop μ-loop
+mul-line7 c = search needs
+
+element-copy-out-line7 : tie.Need-element-copy-out-line7 Inv-loop μ-loop
+element-copy-out-line7 c = search needs
+
 line7-requires : tie.Need-line7-requires Inv-loop μ-loop
 line7-requires c κs = search needs
 
 returns : tie.Need-returns Inv-loop μ-loop
-returns c = sym (scan-hit _ _ _ (c .before .before .before .before .loop .inv) (omega arith) (sym (c .before .line7 .ensures) ∙ c .if2 .taken))
+unfolding line7 event
+returns c = sym (scan-hit _ _ _ (c .before .before .before .before .loop .inv) (omega arith) (sym (c .before .line7 .ensures) ∙ c .if1 .taken))
 
 add-k : tie.Need-add-k Inv-loop μ-loop
 add-k c = search needs
@@ -29,10 +40,11 @@ loop-less : tie.Need-loop-less Inv-loop μ-loop
 loop-less c = search needs
 
 loop-again : tie.Need-loop-again Inv-loop μ-loop
-loop-again c = scan-more _ _ _ (c .before .before .before .before .loop .inv) (omega arith) (sym (c .before .line7 .ensures) ∙ c .if2 .left)
+unfolding line7 event
+loop-again c = scan-more _ _ _ (c .before .before .before .before .loop .inv) (omega arith) (sym (c .before .line7 .ensures) ∙ c .if1 .left)
 
 returns-2 : tie.Need-returns-2 Inv-loop μ-loop
-returns-2 c = sym (scan-end _ _ _ (c .before .before .loop .inv) (omega arith))
+returns-2 c = sym (scan-end _ _ _ (c .before .loop .inv) (omega arith))
 
 pub lowest7-spec : {M : Type 1} → statement M
 lowest7-spec =
@@ -41,6 +53,9 @@ lowest7-spec =
     Inv-loop
     μ-loop
     loop-holds
+    cast-line7
+    mul-line7
+    element-copy-out-line7
     line7-requires
     returns
     add-k

@@ -1,3 +1,4 @@
+use Rattle.table.specs.Events.{event}
 use Rattle.refusals.specs.TableLines.{line8}
 use Prim.Native.Nat.{_-_}
 use mathlib.Core.Path.{sym, _∙_}
@@ -16,11 +17,21 @@ abbrev μ-loop : tie.MeasureT-loop
 loop-holds : tie.Need-loop-holds Inv-loop μ-loop
 loop-holds c = scan-start _ _
 
+cast-line8 : tie.Need-cast-line8 Inv-loop μ-loop
+cast-line8 c = search needs
+
+mul-line8 : tie.Need-mul-line8 Inv-loop μ-loop
+mul-line8 c = search needs
+
+element-copy-out-line8 : tie.Need-element-copy-out-line8 Inv-loop μ-loop
+element-copy-out-line8 c = search needs
+
 line8-requires : tie.Need-line8-requires Inv-loop μ-loop
 line8-requires c κs = search needs
 
 returns : tie.Need-returns Inv-loop μ-loop
-returns c = sym (scan-hit _ _ _ (c .before .before .before .before .loop .inv) (omega arith) (sym (c .before .line8 .ensures) ∙ c .if2 .taken))
+unfolding line8 event
+returns c = sym (scan-hit _ _ _ (c .before .before .before .before .loop .inv) (omega arith) (sym (c .before .line8 .ensures) ∙ c .if1 .taken))
 
 add-k : tie.Need-add-k Inv-loop μ-loop
 add-k c = search needs
@@ -29,10 +40,11 @@ loop-less : tie.Need-loop-less Inv-loop μ-loop
 loop-less c = search needs
 
 loop-again : tie.Need-loop-again Inv-loop μ-loop
-loop-again c = scan-more _ _ _ (c .before .before .before .before .loop .inv) (omega arith) (sym (c .before .line8 .ensures) ∙ c .if2 .left)
+unfolding line8 event
+loop-again c = scan-more _ _ _ (c .before .before .before .before .loop .inv) (omega arith) (sym (c .before .line8 .ensures) ∙ c .if1 .left)
 
 returns-2 : tie.Need-returns-2 Inv-loop μ-loop
-returns-2 c = sym (scan-end _ _ _ (c .before .before .loop .inv) (omega arith))
+returns-2 c = sym (scan-end _ _ _ (c .before .loop .inv) (omega arith))
 
 pub lowest8-spec : {M : Type 1} → statement M
 lowest8-spec =
@@ -41,6 +53,9 @@ lowest8-spec =
     Inv-loop
     μ-loop
     loop-holds
+    cast-line8
+    mul-line8
+    element-copy-out-line8
     line8-requires
     returns
     add-k
