@@ -12,7 +12,7 @@ use Rattle.decode.specs.Layout.{byteAt, editionAt, storedCheck}
 use Rattle.decode.specs.Decoded.{decoded}
 use Rattle.refusals.specs.Lines.{Refused, accepted, byLine, byRecord, Line, whole, firstLine}
 use Rattle.refusals.specs.TableLines.{tableLines}
-use Rattle.block.specs.ZeroBytes.{bytesNotZero}
+use Rattle.zero_bytes.specs.ZeroBytes.{bytesNotZero}
 
 -- 1: "the block isn't 512 bytes"
 abbrev pub line1 : List ℕ → Bool

@@ -4,9 +4,6 @@ use decode::MARKER;
 use edition::EditionOne;
 use refusals::Refusal;
 use table::Table;
-
-mod zeros;
-
 ghost use Prim.Native.Nat.{_+_};
 ghost use mathlib.Core.Path.{_≡_};
 ghost use lib.ListN.{length};
@@ -86,7 +83,7 @@ fn read_whole(s: &[u8]) -> Reading
         return refused(4);
     }
     let t = decode::decode(s);
-    table_if(table_lines::refuse(t, zeros::bytes_not_zero(s)), t)
+    table_if(table_lines::refuse(t, zero_bytes::bytes_not_zero(s)), t)
 }
 
 // Any bytes: the lowest refusal of 1 to 11, and the table, which is blank if there is one.

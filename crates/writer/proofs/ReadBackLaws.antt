@@ -20,7 +20,7 @@ use Rattle.decode.specs.Decoded.{recordFrom, pickEvent, eventAt, initialOf, fin
 use Rattle.refusals.specs.Lines.{Refused, accepted, firstLine}
 use Rattle.refusals.specs.TableLines.{tableLines}
 use Rattle.refusals.proofs.LineLaws.{whole-next}
-use Rattle.block.specs.ZeroBytes.{bytesNotZero}
+use Rattle.zero_bytes.specs.ZeroBytes.{bytesNotZero}
 use Rattle.block.specs.Reading.{tableIf, readingLines, readRefusal, readTable}
 use Rattle.encode.specs.Encoded.{two, four, recordBytes, coveredBytes, checkBytes, encoded}
 use Rattle.encode.proofs.LengthLaws.{length-record, length-covered, length-encoded}

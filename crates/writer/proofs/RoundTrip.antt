@@ -11,7 +11,7 @@ use Rattle.decode.specs.Decoded.{decoded}
 use Rattle.refusals.specs.Lines.{Refused, accepted, firstLine}
 use Rattle.refusals.specs.TableLines.{tableLines}
 use Rattle.refusals.proofs.LineLaws.{whole-next, whole-off}
-use Rattle.block.specs.ZeroBytes.{bytesNotZero}
+use Rattle.zero_bytes.specs.ZeroBytes.{bytesNotZero}
 use Rattle.block.specs.Reading.{line1, line2, line3, line4, tableIf, readingLines, readRefusal, readTable}
 use Rattle.encode.specs.Encoded.{encoded}
 use Rattle.writer.specs.Writing.{blockUnless, writingLines, writeRefusal, writtenBlock}

@@ -12,7 +12,7 @@ use lib.Seq.{getD-append-add, ext-getD}
 use borrow.Author.Tests.{ltb-true, ltb-false, eqb-true, eq-eqb, not-false}
 use Rattle.lists.proofs.SomeLaws.{some-none, none-at}
 use Rattle.decode.specs.Layout.{byteAt}
-use Rattle.block.specs.ZeroBytes.{notZero, someNotZero}
+use Rattle.zero_bytes.specs.ZeroBytes.{notZero, someNotZero}
 use Rattle.encode.specs.Encoded.{zeros, joined}
 use Rattle.encode.proofs.PutLaws.{length-joined}
 

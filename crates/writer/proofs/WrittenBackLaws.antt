@@ -21,7 +21,7 @@ use Rattle.decode.specs.Decoded.{recordFrom, eventAt, initialOf, finalOf, decod
 use Rattle.refusals.specs.Lines.{accepted, whole, firstLine}
 use Rattle.refusals.specs.TableLines.{line5, line6, recordLines, tableLines}
 use Rattle.refusals.proofs.LineLaws.{whole-off}
-use Rattle.block.specs.ZeroBytes.{headerZeros, tailZeros, bytesNotZero}
+use Rattle.zero_bytes.specs.ZeroBytes.{headerZeros, tailZeros, bytesNotZero}
 use Rattle.block.specs.Reading.{line1, line2, line3, line4, readingLines, readRefusal}
 use Rattle.encode.specs.Encoded.{two, four, markerBytes, countBytes, statedBytes, codeBytes, maskBytes, operationBytes, recordBytes, coveredBytes, checkBytes, encoded}
 use Rattle.encode.proofs.LengthLaws.{length-covered, length-encoded}

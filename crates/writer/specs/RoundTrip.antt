@@ -9,7 +9,7 @@ use Rattle.edition.specs.Limits.{blockLength}
 use Rattle.table.specs.declared.Table.{Table}
 use Rattle.decode.specs.Decoded.{decoded}
 use Rattle.refusals.specs.Lines.{accepted}
-use Rattle.block.specs.ZeroBytes.{bytesNotZero}
+use Rattle.zero_bytes.specs.ZeroBytes.{bytesNotZero}
 use Rattle.block.specs.Reading.{line1, line2, line3, line4, readRefusal, readTable}
 use Rattle.writer.specs.Writing.{writeRefusal, writtenBlock}
 use Rattle.writer.specs.Fits.{Bytes, TableFits}

@@ -3,7 +3,7 @@ ghost use Prim.Native.Nat.{_+_, _≤_, _<_};
 ghost use mathlib.Core.Path.{_≡_};
 ghost use lib.ListN.{length};
 ghost use Rattle.edition.specs.Limits.{blockLength};
-ghost use Rattle.block.specs.ZeroBytes.{someNotZero, bytesNotZero};
+ghost use Rattle.zero_bytes.specs.ZeroBytes.{someNotZero, bytesNotZero};
 
 // Where the zero bytes stand.
 const HEADER: usize = 9;

@@ -1,7 +1,7 @@
-use Rattle.block.specs.ZeroBytes.{bytesNotZero}
+use Rattle.zero_bytes.specs.ZeroBytes.{bytesNotZero}
 use borrow.Author.Needs.{needs}
-use Rattle.block.proofs.zeros.bytes_not_zero.Statement.{statement}
-use Rattle.block.proofs.zeros.bytes_not_zero.Tie as tie
+use Rattle.zero_bytes.proofs.bytes_not_zero.Statement.{statement}
+use Rattle.zero_bytes.proofs.bytes_not_zero.Tie as tie
 
 some-not-zero-requires : tie.Need-some-not-zero-requires
 some-not-zero-requires c κs = search needs

@@ -4,11 +4,11 @@ use mathlib.Core.Bool.{not}
 use native.Mathlib.Omega.{arith}
 use lib.Dec.{eqb}
 use Rattle.lists.specs.Below.{some}
-use Rattle.block.specs.ZeroBytes.{notZero}
-use Rattle.block.proofs.ZeroLaws.{sum-more}
+use Rattle.zero_bytes.specs.ZeroBytes.{notZero}
+use Rattle.zero_bytes.proofs.ZeroLaws.{sum-more}
 use borrow.Author.Needs.{needs}
-use Rattle.block.proofs.zeros.some_not_zero.Statement.{statement}
-use Rattle.block.proofs.zeros.some_not_zero.Tie as tie
+use Rattle.zero_bytes.proofs.some_not_zero.Statement.{statement}
+use Rattle.zero_bytes.proofs.some_not_zero.Tie as tie
 
 abbrev Inv-loop : tie.InvT-loop
 Inv-loop s at n sum₀ i₀ sum i = (i ≤ n) × (sum ≤ 255 * i) × (not (eqb sum 0) ≡ some i (notZero s at))
