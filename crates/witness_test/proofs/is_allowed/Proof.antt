@@ -1,9 +1,9 @@
 use mathlib.Core.Path.{sym, ap, _∙_}
 use native.Mathlib.Omega.{arith}
-use Rattle.witness_walk.proofs.WitnessLaws.{determined, determined-long, isAllowed, verdict-says}
+use Rattle.witness_test.proofs.AllowedLaws.{determined, determined-long, isAllowed, verdict-says}
 use borrow.Author.Needs.{needs}
-use Rattle.witness_walk.proofs.is_allowed.Statement.{statement}
-use Rattle.witness_walk.proofs.is_allowed.Tie as tie
+use Rattle.witness_test.proofs.is_allowed.Statement.{statement}
+use Rattle.witness_test.proofs.is_allowed.Tie as tie
 
 determine-requires : tie.Need-determine-requires
 determine-requires c κs =

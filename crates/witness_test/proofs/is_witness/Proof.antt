@@ -2,8 +2,8 @@ use mathlib.Core.Path.{sym}
 use native.Mathlib.Omega.{arith}
 use lib.Seq.{length-take-le}
 use borrow.Author.Needs.{needs}
-use Rattle.witness_walk.proofs.is_witness.Statement.{statement}
-use Rattle.witness_walk.proofs.is_witness.Tie as tie
+use Rattle.witness_test.proofs.is_witness.Statement.{statement}
+use Rattle.witness_test.proofs.is_witness.Tie as tie
 
 slice-aggregate-is-allowed : tie.Need-slice-aggregate-is-allowed
 slice-aggregate-is-allowed c =
