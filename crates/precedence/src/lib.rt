@@ -35,7 +35,7 @@ fn row(t: Table, b: EventNo) -> u32
     while 0 < a {
         a -= 1;
         let x = t.events[a as usize];
-        if table::program_order(EventNo(a), x, b, y) & table::memory(x) & table::memory(y) {
+        if static_rules::may_order(EventNo(a), x, b, y) {
             if static_rules::static_ppo(t, EventNo(a), b) {
                 mask |= one(a as u32);
             }

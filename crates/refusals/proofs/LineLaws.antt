@@ -3,11 +3,19 @@ use Prim.Native.Nat.{ℕ, _≤_, _<_}
 use mathlib.Core.Path.{_≡_, refl, sym, ap, _∙_}
 use mathlib.Core.Bool.{Bool, true, false}
 use mathlib.Core.List.{List, [], _∷_}
+use mathlib.Core.Logic.{_≢_}
 use native.Mathlib.Omega.{arith}
 use borrow.Author.Tests.{lt-ltb, le-ltb}
 use lib.Dec.{ltb}
 use Rattle.lists.specs.Below.{lowest, some}
 use Rattle.refusals.specs.Lines.{Refused, accepted, byLine, byRecord, Line, whole, record-of, refusedIf, firstLine}
+
+-- a refusal is not "accepted"
+pub line-refuses : (k : ℕ) → byLine k ≢ accepted
+line-refuses k e = let z : _≡_ {A = ℕ} 0 1 = cc in omega arith
+
+pub record-refuses : (k i : ℕ) → byRecord k i ≢ accepted
+record-refuses k i e = let z : _≡_ {A = ℕ} 0 1 = cc in omega arith
 
 -- no line is left
 pub none-here : (n : ℕ) → accepted ≡ firstLine n []
@@ -42,5 +50,5 @@ record-next n k f ls i r e l h =
 -- no line refuses: the first doesn't hold, and no later one refuses
 pub whole-off : (n k : ℕ) (b : Bool) (ls : List Line) → firstLine n (whole k b ∷ ls) ≡ accepted → (b ≡ false) × (firstLine n ls ≡ accepted)
 unfolding firstLine
-whole-off n k true ls h = let z : _≡_ {A = ℕ} 0 1 = cc in absurd (omega arith)
+whole-off n k true ls h = absurd (line-refuses k h)
 whole-off n k false ls h = (refl, h)

@@ -1,12 +1,12 @@
 -- The first line that holds of two lists of lines, one after the other.
 use Prim.Native.Nat.{ℕ}
-use native.Mathlib.Omega.{arith}
 use mathlib.Core.Path.{_≡_, refl, sym, ap, _∙_}
 use mathlib.Core.Bool.{true, false}
 use mathlib.Core.List.{List, [], _∷_, _++_}
 use mathlib.Core.Logic.{_≢_}
 use Rattle.lists.specs.Below.{lowest, some}
 use Rattle.refusals.specs.Lines.{Refused, accepted, byLine, byRecord, Line, whole, record-of, refusedIf, firstLine}
+use Rattle.refusals.proofs.LineLaws.{line-refuses, record-refuses}
 
 -- a refusal, or else the next
 abbrev orNext : Refused → Refused → Refused
@@ -33,8 +33,8 @@ passed-both n ls ms h = go (firstLine n ls) (sym (first-of-both n ls ms) ∙ h)
   where
     go : (r : Refused) → orNext r (firstLine n ms) ≡ accepted → (r ≡ accepted) × (firstLine n ms ≡ accepted)
     go accepted e = (refl, e)
-    go (byLine k) e = let z : _≡_ {A = ℕ} 0 1 = cc in absurd (omega arith)
-    go (byRecord k i) e = let z : _≡_ {A = ℕ} 0 1 = cc in absurd (omega arith)
+    go (byLine k) e = absurd (line-refuses k e)
+    go (byRecord k i) e = absurd (record-refuses k i e)
 
 -- a refusal by the first list stands
 pub refused-first : (n : ℕ) (ls ms : List Line) → firstLine n ls ≢ accepted → firstLine n (ls ++ ms) ≡ firstLine n ls

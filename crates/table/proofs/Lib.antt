@@ -1,1 +1,2 @@
 pub mod EventTests
+pub mod SameFields

@@ -15,9 +15,10 @@ use Rattle.edition.specs.Limits.{maxEvents, maxLocations}
 use Rattle.table.specs.declared.Event.{Event}
 use Rattle.table.specs.declared.Table.{Table}
 use Rattle.table.specs.Events.{capacity, noEvent, event, hart, kind, po}
+use Rattle.table.proofs.SameFields.{event-same}
 use Rattle.refusals.specs.Lines.{accepted, byRecord, Line, whole, record-of, refusedIf, firstLine}
 use Rattle.refusals.specs.TableLines.{blank, line5, line6, initialNotZero, finalNotZero, pastNotBlank, line7, line8, line9, names, namesWrongly, dataOfNonWriter, lacksControl, recordLines, tableLines}
-use Rattle.refusals.proofs.LineLaws.{whole-off}
+use Rattle.refusals.proofs.LineLaws.{record-refuses, whole-off}
 use Rattle.refusals.proofs.InRange.{InRange, in-range}
 use Rattle.writer.specs.Fits.{EventFits, TableFits}
 
@@ -27,7 +28,7 @@ unfolding firstLine
 record-off n k f ls h = go (some n f) h
   where
     go : (b : Bool) → refusedIf b (byRecord k (lowest n f)) (firstLine n ls) ≡ accepted → (b ≡ false) × (firstLine n ls ≡ accepted)
-    go true e = let z : _≡_ {A = ℕ} 0 1 = cc in absurd (omega arith)
+    go true e = absurd (record-refuses k (lowest n f) e)
     go false e = (refl, e)
 
 -- lines 5, 6 and 9 of a table that isn't refused
@@ -41,19 +42,6 @@ passed-lines t extra h =
     let past8 = record-off (t .count) 8 (line8 t) _ (past7 .1) in
     let past9 = record-off (t .count) 9 (line9 t) _ (past8 .1) in
     (past5 .0, or-off extra (line6 t) (past6 .0) .1, past9 .0)
-
--- events with the same fields
-pub event-same : (d e : Event) → d .kind ≡ e .kind → d .hart ≡ e .hart → d .location .0 ≡ e .location .0 → d .flags ≡ e .flags
-    → d .addr ≡ e .addr → d .«data» ≡ e .«data» → d .ctrl ≡ e .ctrl → d .read ≡ e .read → d .written ≡ e .written
-    → d .operation ≡ e .operation → d .operand ≡ e .operand → d ≡ e
-event-same d e a b f g i j k l m n o =
-    let same : made (d .kind) (d .hart) (d .location .0) (d .flags) (d .addr) (d .«data») (d .ctrl) (d .read) (d .written) (d .operation) (d .operand)
-    ≡ made (e .kind) (e .hart) (e .location .0) (e .flags) (e .addr) (e .«data») (e .ctrl) (e .read) (e .written) (e .operation) (e .operand) = cc in
-    same
-  where
-    made : (k h x f a d c r w p o : ℕ) → Event
-    made k h x f a d c r w p o =
-        record { kind = k; hart = h; location = record { 0 = x }; flags = f; addr = a; «data» = d; ctrl = c; read = r; written = w; operation = p; operand = o }
 
 -- the last of some tests for zero
 last-zero : (b : Bool) (n : ℕ) → (b && eqb n 0) ≡ true → (b ≡ true) × (n ≡ 0)

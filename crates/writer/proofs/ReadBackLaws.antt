@@ -14,6 +14,7 @@ use Rattle.edition.specs.Limits.{maxEvents, maxLocations}
 use Rattle.table.specs.declared.Event.{Event}
 use Rattle.table.specs.declared.Table.{Table}
 use Rattle.table.specs.Events.{capacity, noEvent, event}
+use Rattle.table.proofs.SameFields.{event-same, table-same}
 use Rattle.checksum.specs.Checksum.{checksum, covered}
 use Rattle.decode.specs.Layout.{byteAt, wordAt, recordAt, storedCheck}
 use Rattle.decode.specs.Decoded.{recordFrom, pickEvent, eventAt, initialOf, finalOf, decoded}
@@ -28,7 +29,7 @@ use Rattle.writer.specs.Fits.{EventFits, ValuesFit, TableFits}
 use Rattle.writer.proofs.StandsLaws.{Stands, stands-self, stands-left, stands-right, zeros-stand}
 use Rattle.writer.proofs.NumberLaws.{word-of, long-of}
 use Rattle.writer.proofs.HoldsLaws.{Holds, holds}
-use Rattle.writer.proofs.GoodLaws.{MasksSmall, Good, event-same}
+use Rattle.writer.proofs.GoodLaws.{MasksSmall, Good}
 use Rattle.writer.proofs.CheckLaws.{check-small, check-encoded}
 
 -- a number of two bytes within what stands
@@ -58,17 +59,6 @@ values-back : (s vs : List ℕ) (at : ℕ) → ValuesFit vs → ((x : ℕ) → x
     → upTo maxLocations (λ (x : ℕ). wordAt s (at + 2 * x)) ≡ vs
 values-back s vs at f h =
     sym (upTo-same maxLocations (λ (x : ℕ). wordAt s (at + 2 * x)) 0 vs (f .long) (λ x l. sym (word-back s (at + 2 * x) (getD vs x 0) (f .each x l) (h x l))))
-
--- tables with the same fields
-table-same : (t u : Table) → t .harts ≡ u .harts → t .locations ≡ u .locations → t .count ≡ u .count → t .stated ≡ u .stated
-    → t .initial ≡ u .initial → t .events ≡ u .events → t .finals ≡ u .finals → t ≡ u
-table-same t u a b d e f g h =
-    let same : made (t .harts) (t .locations) (t .count) (t .stated) (t .initial) (t .events) (t .finals)
-    ≡ made (u .harts) (u .locations) (u .count) (u .stated) (u .initial) (u .events) (u .finals) = cc in
-    same
-  where
-    made : (h l c s : ℕ) → List ℕ → List Event → List ℕ → Table
-    made h l c s i e f = record { harts = h; locations = l; count = c; stated = s; initial = i; events = e; finals = f }
 
 module _ (s : List ℕ) (t : Table) (h : Holds s t) (f : TableFits t) (g : Good t) where
   -- a slot

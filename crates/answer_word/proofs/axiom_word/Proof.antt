@@ -49,16 +49,16 @@ returns c =
     ∙ sym (ap (λ (a : Axiom). verdictWord (axiomOf a)) (c .before .before .before .before .place .given .1))
 
 returns-2 : tie.Need-returns-2
-returns-2 c = cc (ap (λ (a : Axiom). verdictWord (axiomOf a)) (c .before .before .place2 .given .1))
+returns-2 c = c .word2 .ensures ∙ sym (ap (λ (a : Axiom). verdictWord (axiomOf a)) (c .before .before .place2 .given .1))
 
 returns-3 : tie.Need-returns-3
-returns-3 c = cc (ap (λ (a : Axiom). verdictWord (axiomOf a)) (c .before .before .place3 .given .1))
+returns-3 c = c .word3 .ensures ∙ sym (ap (λ (a : Axiom). verdictWord (axiomOf a)) (c .before .before .place3 .given .1))
 
 returns-4 : tie.Need-returns-4
-returns-4 c = cc (ap (λ (a : Axiom). verdictWord (axiomOf a)) (c .before .before .place4 .given .1))
+returns-4 c = c .word4 .ensures ∙ sym (ap (λ (a : Axiom). verdictWord (axiomOf a)) (c .before .before .place4 .given .1))
 
 returns-5 : tie.Need-returns-5
-returns-5 c = cc (ap (λ (a : Axiom). verdictWord (axiomOf a)) (c .before .before .place5 .given .1))
+returns-5 c = c .word5 .ensures ∙ sym (ap (λ (a : Axiom). verdictWord (axiomOf a)) (c .before .before .place5 .given .1))
 
 pub axiom-word-spec : {M : Type 1} → statement M
 axiom-word-spec =

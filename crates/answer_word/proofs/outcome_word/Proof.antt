@@ -1,12 +1,17 @@
 use Rattle.answer_word.specs.Fits.{AnswerFits}
-use Rattle.answer_word.specs.Words.{answerWord}
+use Rattle.answer_word.specs.Words.{word, answerWord}
 use Rattle.witness_walk.specs.Outcome.{outcomeOf}
 use Rattle.witness_walk.specs.declared.Outcome.{Outcome}
+use Prim.Native.Nat.{ℕ}
 use native.Mathlib.Omega.{arith}
-use mathlib.Core.Path.{ap, subst}
+use mathlib.Core.Path.{_≡_, sym, ap, subst, _∙_}
 use borrow.Author.Needs.{needs}
 use Rattle.answer_word.proofs.outcome_word.Statement.{statement}
 use Rattle.answer_word.proofs.outcome_word.Tie as tie
+
+-- the same at byte 1
+at-byte-1 : (kind a b visited : ℕ) → a ≡ b → word kind a 0 0 visited ≡ word kind b 0 0 visited
+at-byte-1 kind a b visited e = ap (λ (n : ℕ). word kind n 0 0 visited) e
 
 enum-known-outcome : tie.Need-enum-known-outcome
 enum-known-outcome c = search needs
@@ -53,17 +58,17 @@ word-requires-3 c κs =
 returns : tie.Need-returns
 returns c =
     let start = c .before .before .before .before .before .before in
-    cc (ap (λ (o : Outcome). answerWord (outcomeOf o (start .args .out .now))) (c .before .before .before .outcome .given .1))
+    c .word .ensures ∙ at-byte-1 _ _ _ _ (c .before .front .ensures) ∙ sym (ap (λ (o : Outcome). answerWord (outcomeOf o (start .args .out .now))) (c .before .before .before .outcome .given .1))
 
 returns-2 : tie.Need-returns-2
 returns-2 c =
     let start = c .before .before .before .before .before in
-    cc (ap (λ (o : Outcome). answerWord (outcomeOf o (start .args .out .now))) (c .before .before .outcome2 .given .1))
+    c .word2 .ensures ∙ sym (ap (λ (o : Outcome). answerWord (outcomeOf o (start .args .out .now))) (c .before .before .outcome2 .given .1))
 
 returns-3 : tie.Need-returns-3
 returns-3 c =
     let start = c .before .before .before .before .before .before in
-    cc (ap (λ (o : Outcome). answerWord (outcomeOf o (start .args .out .now))) (c .before .before .before .outcome3 .given .1))
+    c .word3 .ensures ∙ at-byte-1 _ _ _ _ (c .before .front2 .ensures) ∙ sym (ap (λ (o : Outcome). answerWord (outcomeOf o (start .args .out .now))) (c .before .before .before .outcome3 .given .1))
 
 pub outcome-word-spec : {M : Type 1} → statement M
 outcome-word-spec =

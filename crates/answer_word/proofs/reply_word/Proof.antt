@@ -2,7 +2,7 @@ use Rattle.answer_word.specs.Fits.{ReplyFits}
 use Rattle.answer_word.specs.Words.{replyWord}
 use Rattle.search.specs.Replies.{replyOf}
 use Rattle.search.specs.declared.Reply.{Reply}
-use mathlib.Core.Path.{ap, subst}
+use mathlib.Core.Path.{sym, ap, subst, _∙_}
 use borrow.Author.Needs.{needs}
 use Rattle.answer_word.proofs.reply_word.Statement.{statement}
 use Rattle.answer_word.proofs.reply_word.Tie as tie
@@ -27,7 +27,7 @@ returns c = search needs
 returns-2 : tie.Need-returns-2
 returns-2 c =
     let start = c .before .before .before .before .before in
-    cc (ap (λ (r : Reply). replyWord (replyOf r (start .args .out .now))) (c .before .before .reply2 .given .1))
+    c .outcome-word .ensures ∙ sym (ap (λ (r : Reply). replyWord (replyOf r (start .args .out .now))) (c .before .before .reply2 .given .1))
 
 pub reply-word-spec : {M : Type 1} → statement M
 reply-word-spec =

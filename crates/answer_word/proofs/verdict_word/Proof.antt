@@ -1,7 +1,7 @@
 use Rattle.answer_word.specs.Words.{judgedWord}
 use Rattle.verdict.specs.Judged.{judgedOf}
 use Rattle.verdict.specs.declared.Verdict.{Verdict}
-use mathlib.Core.Path.{ap}
+use mathlib.Core.Path.{sym, ap, _∙_}
 use borrow.Author.Needs.{needs}
 use Rattle.answer_word.proofs.verdict_word.Statement.{statement}
 use Rattle.answer_word.proofs.verdict_word.Tie as tie
@@ -31,7 +31,7 @@ returns-2 : tie.Need-returns-2
 returns-2 c = search needs
 
 returns-3 : tie.Need-returns-3
-returns-3 c = cc (ap (λ (v : Verdict). judgedWord (judgedOf v)) (c .before .enum-told .given .1))
+returns-3 c = c .word .ensures ∙ sym (ap (λ (v : Verdict). judgedWord (judgedOf v)) (c .before .enum-told .given .1))
 
 pub verdict-word-spec : {M : Type 1} → statement M
 verdict-word-spec =

@@ -1,9 +1,7 @@
 use Rattle.bench.proofs.EntryLaws.{table-read, small-read, search-declined, search-answered}
 use Rattle.precedence.specs.Counts.{Small}
-use Prim.Native.Nat.{ℕ}
-use mathlib.Core.Path.{_≡_}
-use native.Mathlib.Omega.{arith}
 use Rattle.refusals.specs.Refusals.{refusalOf}
+use Rattle.refusals.proofs.LineLaws.{line-refuses, record-refuses}
 use mathlib.Core.Path.{ap, sym, subst, _∙_}
 use borrow.Author.Needs.{needs}
 use Rattle.bench.proofs.search.Statement.{statement}
@@ -31,10 +29,10 @@ returns : tie.Need-returns
 returns c = search-answered _ _ _ _ _ _ _ (sym (c .before .before .before .before .before .before .before .read .ensures .0) ∙ ap refusalOf (c .before .before .before .before .enum-told .given .1)) (c .before .before .before .before .before .before .before .read .ensures .1 ∙ table-read _ (sym (c .before .before .before .before .before .before .before .read .ensures .0) ∙ ap refusalOf (c .before .before .before .before .enum-told .given .1))) (c .before .before .search .ensures)
 
 returns-2 : tie.Need-returns-2
-returns-2 c = search-declined _ _ _ _ _ (sym (ap refusalOf (c .before .refusal .given .1)) ∙ c .before .before .before .before .read .ensures .0) (λ h. let z : _≡_ {A = ℕ} 0 1 = cc in omega arith)
+returns-2 c = search-declined _ _ _ _ _ (sym (ap refusalOf (c .before .refusal .given .1)) ∙ c .before .before .before .before .read .ensures .0) (line-refuses _)
 
 returns-3 : tie.Need-returns-3
-returns-3 c = search-declined _ _ _ _ _ (sym (ap refusalOf (c .before .refusal2 .given .1)) ∙ c .before .before .before .before .read .ensures .0) (λ h. let z : _≡_ {A = ℕ} 0 1 = cc in omega arith)
+returns-3 c = search-declined _ _ _ _ _ (sym (ap refusalOf (c .before .refusal2 .given .1)) ∙ c .before .before .before .before .read .ensures .0) (record-refuses _ _)
 
 pub search-spec : {M : Type 1} → statement M
 search-spec =

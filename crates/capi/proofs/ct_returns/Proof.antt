@@ -1,3 +1,5 @@
+use Rattle.answer_word.specs.Words.{refusalWord}
+use mathlib.Core.Path.{ap, _∙_}
 use borrow.Author.Needs.{needs}
 use Rattle.capi.proofs.ct_returns.Statement.{statement}
 use Rattle.capi.proofs.ct_returns.Tie as tie
@@ -12,7 +14,7 @@ same-length : tie.Need-same-length
 same-length c = search needs
 
 returns : tie.Need-returns
-returns c = (cc, c .before .before .before .returns .ensures .1)
+returns c = (c .refusal-word .ensures ∙ ap refusalWord (c .before .before .before .returns .ensures .0), c .before .before .before .returns .ensures .1)
 
 pub ct-returns-spec : {M : Type 1} → statement M
 ct-returns-spec = tie.close (tie.spec returns-requires refusal-word-requires same-length returns)

@@ -1,3 +1,5 @@
+use Rattle.answer_word.specs.Words.{judgedWord}
+use mathlib.Core.Path.{ap, _∙_}
 use borrow.Author.Needs.{needs}
 use Rattle.capi.proofs.ct_verdict.Statement.{statement}
 use Rattle.capi.proofs.ct_verdict.Tie as tie
@@ -9,7 +11,7 @@ verdict-word-requires : tie.Need-verdict-word-requires
 verdict-word-requires c κs = search needs
 
 returns : tie.Need-returns
-returns c = cc
+returns c = c .verdict-word .ensures ∙ ap judgedWord (c .before .verdict .ensures)
 
 pub ct-verdict-spec : {M : Type 1} → statement M
 ct-verdict-spec = tie.close (tie.spec verdict-requires verdict-word-requires returns)

@@ -1,4 +1,5 @@
 -- `decode`: each part is what its reader gave.
+use Rattle.table.proofs.SameFields.{table-same}
 use borrow.Author.Needs.{needs}
 use Rattle.decode.specs.Decoded.{initialOf, finalOf, decoded}
 use Rattle.decode.proofs.decode.Statement.{statement}
@@ -27,7 +28,9 @@ values-requires-2 c κs = search needs
 
 returns : tie.Need-returns
 unfolding decoded initialOf finalOf
-returns c = cc
+returns c =
+    table-same _ _ (c .before .before .before .before .before .before .byte-at .ensures) (c .before .before .before .before .before .byte-at2 .ensures) (c .before .before .before .before .byte-at3 .ensures) (c .before .before .before .byte-at4 .ensures) (c .before .before .values .ensures)
+    (c .before .events .ensures) (c .values2 .ensures)
 
 pub decode-spec : {M : Type 1} → statement M
 decode-spec =

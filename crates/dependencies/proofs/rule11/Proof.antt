@@ -1,3 +1,5 @@
+use mathlib.Core.Path.{ap₂}
+use mathlib.Core.Bool.{_&&_}
 use borrow.Author.Needs.{needs}
 use Rattle.dependencies.proofs.rule11.Statement.{statement}
 use Rattle.dependencies.proofs.rule11.Tie as tie
@@ -12,7 +14,7 @@ has-requires : tie.Need-has-requires
 has-requires c κs = search needs
 
 returns : tie.Need-returns
-returns c = cc
+returns c = ap₂ _&&_ (c .before .before .writes .ensures) (c .has .ensures)
 
 pub rule11-spec : {M : Type 1} → statement M
 rule11-spec = tie.close (tie.spec writes-requires cast-has has-requires returns)

@@ -1,3 +1,5 @@
+use mathlib.Core.Path.{ap₂}
+use mathlib.Core.Bool.{_||_}
 use borrow.Author.Needs.{needs}
 use Rattle.dependency_lines.proofs.names.Statement.{statement}
 use Rattle.dependency_lines.proofs.names.Tie as tie
@@ -12,7 +14,7 @@ has-requires-3 : tie.Need-has-requires-3
 has-requires-3 c κs = search needs
 
 returns : tie.Need-returns
-returns c = cc
+returns c = ap₂ _||_ (ap₂ _||_ (c .before .before .has .ensures) (c .before .has2 .ensures)) (c .has3 .ensures)
 
 pub names-spec : {M : Type 1} → statement M
 names-spec = tie.close (tie.spec has-requires has-requires-2 has-requires-3 returns)

@@ -1,3 +1,5 @@
+use mathlib.Core.Path.{ap₂}
+use mathlib.Core.Bool.{_&&_}
 use borrow.Author.Needs.{needs}
 use Rattle.overlap.proofs.rule1.Statement.{statement}
 use Rattle.overlap.proofs.rule1.Tie as tie
@@ -9,7 +11,7 @@ same-location-requires : tie.Need-same-location-requires
 same-location-requires c κs = search needs
 
 returns : tie.Need-returns
-returns c = cc
+returns c = ap₂ _&&_ (c .before .writes .ensures) (c .same-location .ensures)
 
 pub rule1-spec : {M : Type 1} → statement M
 rule1-spec = tie.close (tie.spec writes-requires same-location-requires returns)

@@ -39,14 +39,8 @@ mul-x c = search needs
 element-copy-out-x : tie.Need-element-copy-out-x Inv-loop μ-loop
 element-copy-out-x c = search needs
 
-program-order-requires : tie.Need-program-order-requires Inv-loop μ-loop
-program-order-requires c κs = search needs
-
-memory-requires : tie.Need-memory-requires Inv-loop μ-loop
-memory-requires c κs = search needs
-
-memory-requires-2 : tie.Need-memory-requires-2 Inv-loop μ-loop
-memory-requires-2 c κs = search needs
+may-order-requires : tie.Need-may-order-requires Inv-loop μ-loop
+may-order-requires c κs = search needs
 
 static-ppo-requires : tie.Need-static-ppo-requires Inv-loop μ-loop
 static-ppo-requires c κs = search needs
@@ -63,7 +57,7 @@ loop-less c = search needs
 loop-again : tie.Need-loop-again Inv-loop μ-loop
 loop-again c =
     let d = c .before .before in
-    let v = d .before .before .before .before .before .before .before .loop in
+    let v = d .before .before .before .before .before .loop in
     gather-take _ _ (v .a) (v .mask) _ (v .inv) (omega arith) (c .one .ensures) (sym (d .static-ppo .ensures) ∙ c .before .if2 .taken)
 
 loop-less-2 : tie.Need-loop-less-2 Inv-loop μ-loop
@@ -72,7 +66,7 @@ loop-less-2 c = search needs
 loop-again-2 : tie.Need-loop-again-2 Inv-loop μ-loop
 loop-again-2 c =
     let d = c .before in
-    let v = d .before .before .before .before .before .before .before .loop in
+    let v = d .before .before .before .before .before .loop in
     gather-skip _ _ (v .a) (v .mask) (v .inv) (omega arith) (sym (d .static-ppo .ensures) ∙ c .if2 .left)
 
 loop-less-3 : tie.Need-loop-less-3 Inv-loop μ-loop
@@ -81,8 +75,8 @@ loop-less-3 c = search needs
 loop-again-3 : tie.Need-loop-again-3 Inv-loop μ-loop
 unfolding mayOrder ofEvents
 loop-again-3 c =
-    let v = c .before .before .before .before .before .before .loop in
-    gather-skip _ _ (v .a) (v .mask) (v .inv) (omega arith) (sym (static-left _ _ _ (cc)))
+    let v = c .before .before .before .before .loop in
+    gather-skip _ _ (v .a) (v .mask) (v .inv) (omega arith) (sym (static-left _ _ _ (sym (c .before .may-order .ensures) ∙ c .if1 .left)))
 
 returns : tie.Need-returns Inv-loop μ-loop
 unfolding predecessorMask
@@ -102,9 +96,7 @@ row-spec =
     cast-x
     mul-x
     element-copy-out-x
-    program-order-requires
-    memory-requires
-    memory-requires-2
+    may-order-requires
     static-ppo-requires
     cast-one
     one-requires

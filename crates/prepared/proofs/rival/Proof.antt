@@ -1,3 +1,5 @@
+use mathlib.Core.Path.{refl, ap₂}
+use mathlib.Core.Bool.{_&&_}
 use borrow.Author.Needs.{needs}
 use Rattle.prepared.proofs.rival.Statement.{statement}
 use Rattle.prepared.proofs.rival.Tie as tie
@@ -12,7 +14,7 @@ same-location-requires : tie.Need-same-location-requires
 same-location-requires c κs = search needs
 
 returns : tie.Need-returns
-returns c = cc
+returns c = ap₂ _&&_ (ap₂ _&&_ (ap₂ _&&_ (c .before .before .before .before .reads .ensures) (c .before .before .before .writes .ensures)) (c .before .before .same-location .ensures)) refl
 
 pub rival-spec : {M : Type 1} → statement M
 rival-spec = tie.close (tie.spec reads-requires writes-requires same-location-requires returns)

@@ -1,3 +1,5 @@
+use mathlib.Core.Path.{ap₂}
+use mathlib.Core.Bool.{_||_}
 use borrow.Author.Needs.{needs}
 use Rattle.record_lines.proofs.acquires.Statement.{statement}
 use Rattle.record_lines.proofs.acquires.Tie as tie
@@ -9,7 +11,7 @@ has-requires-2 : tie.Need-has-requires-2
 has-requires-2 c κs = search needs
 
 returns : tie.Need-returns
-returns c = cc
+returns c = ap₂ _||_ (c .before .has .ensures) (c .has2 .ensures)
 
 pub acquires-spec : {M : Type 1} → statement M
 acquires-spec = tie.close (tie.spec has-requires has-requires-2 returns)

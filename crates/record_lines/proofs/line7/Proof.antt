@@ -1,4 +1,6 @@
 use Rattle.refusals.specs.TableLines.{fieldsWrong}
+use mathlib.Core.Path.{ap₂}
+use mathlib.Core.Bool.{_||_}
 use borrow.Author.Needs.{needs}
 use Rattle.record_lines.proofs.line7.Statement.{statement}
 use Rattle.record_lines.proofs.line7.Tie as tie
@@ -23,7 +25,7 @@ not-applied-requires c κs = search needs
 
 returns : tie.Need-returns
 unfolding fieldsWrong
-returns c = cc
+returns c = ap₂ _||_ (ap₂ _||_ (ap₂ _||_ (ap₂ _||_ (ap₂ _||_ (c .before .before .before .before .before .field-out-of-range .ensures) (c .before .before .before .before .value-not-zero .ensures)) (c .before .before .before .fence-not-zero .ensures)) (c .before .before .operation-out-of-range .ensures)) (c .before .operand-not-zero .ensures)) (c .not-applied .ensures)
 
 pub line7-spec : {M : Type 1} → statement M
 line7-spec =

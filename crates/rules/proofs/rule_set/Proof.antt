@@ -1,4 +1,6 @@
+use mathlib.Core.Path.{ap, _∙_}
 use borrow.Author.Needs.{needs}
+use Rattle.rules.specs.RuleMask.{setMask}
 use Rattle.rules.proofs.rule_set.Statement.{statement}
 use Rattle.rules.proofs.rule_set.Tie as tie
 
@@ -9,7 +11,7 @@ set-mask-requires : tie.Need-set-mask-requires
 set-mask-requires c κs = search needs
 
 returns : tie.Need-returns
-returns c = cc
+returns c = c .set-mask .ensures ∙ ap setMask (c .before .rules .ensures)
 
 pub rule-set-spec : {M : Type 1} → statement M
 rule-set-spec = tie.close (tie.spec rules-requires set-mask-requires returns)

@@ -1,3 +1,5 @@
+use mathlib.Core.Path.{ap₂}
+use mathlib.Core.Bool.{_&&_}
 use borrow.Author.Needs.{needs}
 use Rattle.static_rules.proofs.may_order.Statement.{statement}
 use Rattle.static_rules.proofs.may_order.Tie as tie
@@ -12,7 +14,7 @@ memory-requires-2 : tie.Need-memory-requires-2
 memory-requires-2 c κs = search needs
 
 returns : tie.Need-returns
-returns c = cc
+returns c = ap₂ _&&_ (ap₂ _&&_ (c .before .before .program-order .ensures) (c .before .memory .ensures)) (c .memory2 .ensures)
 
 pub may-order-spec : {M : Type 1} → statement M
 may-order-spec =

@@ -1,3 +1,5 @@
+use mathlib.Core.Path.{ap₂}
+use mathlib.Core.Bool.{_||_}
 use borrow.Author.Needs.{needs}
 use Rattle.static_rules.proofs.told.Statement.{statement}
 use Rattle.static_rules.proofs.told.Tie as tie
@@ -24,7 +26,7 @@ rule11-requires : tie.Need-rule11-requires
 rule11-requires c κs = search needs
 
 returns : tie.Need-returns
-returns c = cc
+returns c = ap₂ _||_ (ap₂ _||_ (ap₂ _||_ (ap₂ _||_ (ap₂ _||_ (ap₂ _||_ (c .before .before .before .before .before .before .rule1 .ensures) (c .before .before .before .before .before .rule5 .ensures)) (c .before .before .before .before .rule6 .ensures)) (c .before .before .before .rule7 .ensures)) (c .before .before .rule9 .ensures)) (c .before .rule10 .ensures)) (c .rule11 .ensures)
 
 pub told-spec : {M : Type 1} → statement M
 told-spec =

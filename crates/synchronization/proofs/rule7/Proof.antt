@@ -1,3 +1,5 @@
+use mathlib.Core.Path.{ap₂}
+use mathlib.Core.Bool.{_&&_}
 use borrow.Author.Needs.{needs}
 use Rattle.synchronization.proofs.rule7.Statement.{statement}
 use Rattle.synchronization.proofs.rule7.Tie as tie
@@ -9,7 +11,7 @@ rcsc-requires-2 : tie.Need-rcsc-requires-2
 rcsc-requires-2 c κs = search needs
 
 returns : tie.Need-returns
-returns c = cc
+returns c = ap₂ _&&_ (c .before .rcsc .ensures) (c .rcsc2 .ensures)
 
 pub rule7-spec : {M : Type 1} → statement M
 rule7-spec = tie.close (tie.spec rcsc-requires rcsc-requires-2 returns)

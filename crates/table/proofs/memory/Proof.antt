@@ -1,3 +1,5 @@
+use mathlib.Core.Path.{ap₂}
+use mathlib.Core.Bool.{_||_}
 use borrow.Author.Needs.{needs}
 use Rattle.table.proofs.memory.Statement.{statement}
 use Rattle.table.proofs.memory.Tie as tie
@@ -9,7 +11,7 @@ writes-requires : tie.Need-writes-requires
 writes-requires c κs = search needs
 
 returns : tie.Need-returns
-returns c = cc
+returns c = ap₂ _||_ (c .before .reads .ensures) (c .writes .ensures)
 
 pub memory-spec : {M : Type 1} → statement M
 memory-spec = tie.close (tie.spec reads-requires writes-requires returns)

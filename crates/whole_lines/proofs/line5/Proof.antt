@@ -1,4 +1,6 @@
 use Rattle.refusals.specs.TableLines.{line5}
+use mathlib.Core.Path.{ap₂}
+use mathlib.Core.Bool.{_||_}
 use borrow.Author.Needs.{needs}
 use Rattle.whole_lines.proofs.line5.Statement.{statement}
 use Rattle.whole_lines.proofs.line5.Tie as tie
@@ -17,7 +19,7 @@ states-missing-requires c κs = search needs
 
 returns : tie.Need-returns
 unfolding line5
-returns c = cc
+returns c = ap₂ _||_ (ap₂ _||_ (ap₂ _||_ (c .before .before .before .outside .ensures) (c .before .before .outside2 .ensures)) (c .before .outside3 .ensures)) (c .states-missing .ensures)
 
 pub line5-spec : {M : Type 1} → statement M
 line5-spec =

@@ -1,4 +1,6 @@
 use Rattle.refusals.specs.TableLines.{line6}
+use mathlib.Core.Path.{ap₂}
+use mathlib.Core.Bool.{_||_}
 use borrow.Author.Needs.{needs}
 use Rattle.whole_lines.proofs.line6.Statement.{statement}
 use Rattle.whole_lines.proofs.line6.Tie as tie
@@ -14,7 +16,7 @@ past-not-blank-requires c κs = search needs
 
 returns : tie.Need-returns
 unfolding line6
-returns c = cc
+returns c = ap₂ _||_ (ap₂ _||_ (c .before .before .initial-not-zero .ensures) (c .before .final-not-zero .ensures)) (c .past-not-blank .ensures)
 
 pub line6-spec : {M : Type 1} → statement M
 line6-spec =
