@@ -20,9 +20,9 @@ use Rattle.prefixes.specs.Listed.{after}
 use Rattle.prefixes.specs.Answer.{found, noneLeft, spent}
 use Rattle.prefixes.specs.Statements.{seek}
 use Rattle.prefixes.proofs.ListedLaws.{rising-keep, listed-only, listed-each, listed-ascending}
-use Rattle.engine.specs.CleanMasks.{slots, cleanBy, masked}
+use Rattle.successors.specs.CleanMasks.{slots, cleanBy, masked}
 use Rattle.engine.specs.State.{Holds, Began}
-use Rattle.engine.proofs.CleanLaws.{clean-closed, clean-events, clean-ones, clean-within, clean-short}
+use Rattle.ready_events.proofs.CleanLaws.{clean-closed, clean-events, clean-ones, clean-within, clean-short}
 
 module _ (preds : List ℕ) (mem : ℕ) where
   -- a clean list has all events exactly where its mask is theirs

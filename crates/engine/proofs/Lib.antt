@@ -1,7 +1,3 @@
-pub mod CleanLaws
-pub mod SiftLaws
-pub mod WaitLaws
-pub mod KeptLaws
 pub mod StateLaws
 pub mod LoadLaws
 pub mod EngineLaws

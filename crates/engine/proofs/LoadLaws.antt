@@ -12,9 +12,11 @@ use lib.Count.{ones}
 use Rattle.masks.specs.Bit.{bit}
 use Rattle.masks.specs.MaskOf.{maskOf}
 use Rattle.masks.proofs.BitLaws.{bit-zero}
-use Rattle.engine.specs.CleanMasks.{slots, ready, mayFollow, cleanFrom, cleanBy}
-use Rattle.engine.specs.State.{Prepared, Current, Holds, Began}
-use Rattle.engine.proofs.CleanLaws.{unclean-at}
+use Rattle.successors.specs.CleanMasks.{slots, ready, mayFollow, cleanFrom, cleanBy}
+use Rattle.successors.specs.Waiting.{Prepared}
+use Rattle.ready_events.specs.Current.{Current}
+use Rattle.engine.specs.State.{Holds, Began}
+use Rattle.ready_events.proofs.CleanLaws.{unclean-at}
 use Rattle.engine.proofs.StateLaws.{room, path-stored, holds-placed}
 
 -- the first len entries of the start are read into the order

@@ -10,8 +10,9 @@ use lib.ListN.{take, set}
 use Rattle.prefixes.specs.Listed.{after}
 use Rattle.prefixes.specs.Answer.{Answer, found, noneLeft, spent}
 use Rattle.prefixes.specs.Statements.{seek}
-use Rattle.engine.specs.CleanMasks.{masked}
-use Rattle.engine.specs.State.{Prepared, Holds, Moved}
+use Rattle.successors.specs.CleanMasks.{masked}
+use Rattle.successors.specs.Waiting.{Prepared}
+use Rattle.engine.specs.State.{Holds, Moved}
 use Rattle.engine.proofs.EngineLaws.{step-none, step-spent, step-found, step-on}
 
 -- the answer of a search along the clean prefixes: p was visited last, b may still be visited, n were

@@ -16,10 +16,12 @@ use Rattle.masks.proofs.PowerLaws.{ones-or, xor-or}
 use Rattle.masks.proofs.UnionLaws.{mask-append}
 use Rattle.masks.proofs.WithinLaws.{bit-below, within-le}
 use Rattle.lists.proofs.BoolLaws.{and-l, and-r}
-use Rattle.engine.specs.CleanMasks.{slots, limit, mayFollow, cleanBy}
-use Rattle.engine.specs.State.{Prepared, Current, Holds}
-use Rattle.engine.proofs.CleanLaws.{event, fresh, clean-snoc, clean-within}
-use Rattle.engine.proofs.KeptLaws.{back-current}
+use Rattle.successors.specs.CleanMasks.{slots, limit, mayFollow, cleanBy}
+use Rattle.successors.specs.Waiting.{Prepared}
+use Rattle.ready_events.specs.Current.{Current}
+use Rattle.engine.specs.State.{Holds}
+use Rattle.ready_events.proofs.CleanLaws.{event, fresh, clean-snoc, clean-within}
+use Rattle.ready_events.proofs.KeptLaws.{back-current}
 
 -- the mask of one more entry
 mask-snoc : (p : List ℕ) (e : ℕ) → maskOf (p ++ (e ∷ [])) ≡ bitOr (maskOf p) (2 ^ e)
@@ -27,10 +29,6 @@ unfolding maskOf
 mask-snoc p e = mask-append p (e ∷ []) ∙ ap (bitOr (maskOf p)) (or-zero-l (2 ^ e))
 
 module _ {preds succs : List ℕ} {mem : ℕ} (tables : Prepared preds succs mem) where
-  -- what may come next is an event
-  pub can-below : (placed can e : ℕ) → Current preds mem placed can → bit can e ≡ true → e < limit
-  can-below placed can e s h = bit-below limit mem e (tables .small) (event preds mem placed e (sym (s e) ∙ h))
-
   module _ {order : List ℕ} {len placed can : ℕ} (state : Holds preds mem order len placed can) where
     -- there is room for one more entry
     pub room : len < slots

@@ -20,9 +20,11 @@ use Rattle.masks.proofs.PowerLaws.{bit-high, trailing-lowest}
 use Rattle.masks.proofs.WithinLaws.{bit-below, within-le}
 use Rattle.prefixes.specs.Listed.{after}
 use Rattle.prefixes.proofs.NextLaws.{fromOn, from-start, from-next, from-back, from-end}
-use Rattle.engine.specs.CleanMasks.{slots, limit, cleanBy, masked}
-use Rattle.engine.specs.State.{Prepared, Current, Holds, Moved, changed}
-use Rattle.engine.proofs.CleanLaws.{event, clean-closed}
+use Rattle.successors.specs.CleanMasks.{slots, limit, cleanBy, masked}
+use Rattle.successors.specs.Waiting.{Prepared}
+use Rattle.ready_events.specs.Current.{Current}
+use Rattle.engine.specs.State.{Holds, Moved, changed}
+use Rattle.ready_events.proofs.CleanLaws.{event, clean-closed}
 use Rattle.engine.proofs.StateLaws.{room, clean-next, path-stored, holds-placed, path-last, last-below, holds-back}
 use Rattle.engine.proofs.EngineLaws.{masked-only, masked-each, masked-ascending}
 

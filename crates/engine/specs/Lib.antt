@@ -1,2 +1,1 @@
-pub mod CleanMasks
 pub mod State

@@ -1,37 +1,18 @@
 -- What the engine's masks and its order stand for, and what its answers say.
-use Prim.Native.Nat.{ℕ, _+_, _^_, _≤_, _<_}
+use Prim.Native.Nat.{ℕ, _+_, _≤_, _<_}
 use mathlib.Core.Path.{_≡_}
-use mathlib.Core.Bool.{true, false, cond, _&&_}
+use mathlib.Core.Bool.{true, false}
 use mathlib.Core.List.{List, [], _∷_, _++_}
-use lib.ListN.{length, getD, take, set}
-use lib.Bits.{bitOr}
+use lib.ListN.{length, take, set}
 use lib.Count.{ones}
-use Rattle.masks.specs.Bit.{bit}
 use Rattle.masks.specs.MaskOf.{maskOf}
 use Rattle.prefixes.specs.Listed.{after}
+use Rattle.successors.specs.CleanMasks.{slots, cleanBy, masked}
+use Rattle.ready_events.specs.Current.{Current}
 use Rattle.engine.specs.declared.Loaded.{Loaded}
 use Rattle.engine.specs.declared.Loaded.the-variants.{Ready, Unclean}
 use Rattle.engine.specs.declared.Step.{Step}
 use Rattle.engine.specs.declared.Step.the-variants.{Place, End}
-use Rattle.engine.specs.CleanMasks.{slots, limit, mayFollow, cleanBy, masked}
-
--- m is the mask of the events of mem that wait for e
-abbrev pub Waiting : List ℕ → ℕ → ℕ → ℕ → Type 0
-Waiting preds mem e m = (k : ℕ) → bit m k ≡ (bit mem k && bit (getD preds k 0) e)
-
--- succs has for each event the mask of those that wait for it
-pub record Prepared (preds succs : List ℕ) (mem : ℕ) : Type 0 where
-  pub small : mem < 2 ^ limit
-  pub waiting : (e : ℕ) → e < slots → Waiting preds mem e (getD succs e 0)
-
--- event k was added to the masks, in succs, of the events of preds
-pub record Added (succs : List ℕ) (preds k : ℕ) (added : List ℕ) : Type 0 where
-  pub long : length added ≡ slots
-  pub each : (e : ℕ) → e < slots → getD added e 0 ≡ bitOr (getD succs e 0) (cond (bit preds e) (2 ^ k) 0)
-
--- can is the mask of the events that may come next
-abbrev pub Current : List ℕ → ℕ → ℕ → ℕ → Type 0
-Current preds mem placed can = (k : ℕ) → bit can k ≡ mayFollow preds mem placed k
 
 -- the first len entries of order are a clean prefix, placed is its mask, and can the mask of the events that may come next
 pub record Holds (preds : List ℕ) (mem : ℕ) (order : List ℕ) (len placed can : ℕ) : Type 0 where

@@ -1,25 +1,15 @@
 // The engine: it walks the ascending list of clean prefixes over masks of events, and knows nothing of what the events are.
 use masks::has;
 use masks::lowest_set;
-use masks::one;
-use masks::within;
-ghost use Prim.Native.Nat.{ℕ, _+_, _*_, _/_, _^_, _<_};
+use ready_events::Masks;
+use successors::SLOTS;
+ghost use Prim.Native.Nat.{_+_, _*_, _/_, _^_, _<_};
 ghost use mathlib.Core.Path.{_≡_};
-ghost use mathlib.Core.Bool.{true, _&&_};
-ghost use lib.ListN.{length, getD};
-ghost use lib.Bits.{bitAnd, bitOr, bitXor};
+ghost use lib.ListN.{length};
 ghost use Rattle.masks.specs.Bit.{bit};
-ghost use Rattle.engine.specs.CleanMasks.{slots, limit, ready};
-ghost use Rattle.engine.specs.State.{Added, Prepared, Current, Holds, LoadedAs, NextIs};
-
-// The bits of a mask, and the entries of an order.
-pub const SLOTS: usize = 32;
-
-// Of a prefix: its events, and those that may come next.
-pub struct Masks {
-    pub placed: u32,
-    pub can: u32,
-}
+ghost use Rattle.successors.specs.CleanMasks.{slots, limit};
+ghost use Rattle.successors.specs.Waiting.{Prepared};
+ghost use Rattle.engine.specs.State.{Holds, LoadedAs, NextIs};
 
 pub enum Loaded {
     // The start stands at the front of the order.
@@ -31,80 +21,6 @@ pub enum Step {
     // The next prefix: how many entries of the order it keeps, the event behind them, and its masks.
     Place(usize, u8, Masks),
     End,
-}
-
-// The events of `rest` that are ready. No other is looked at.
-fn ready_of(pred: &[u32; SLOTS], rest: u32, placed: u32) -> u32
-    ensures { λ r. ⌜ ((k : ℕ) → bit r k ≡ (bit rest k && ready (now (pred .entry)) placed k)) ⌝ }
-{
-    let mut left = rest;
-    let mut found: u32 = 0;
-    while left != 0 {
-        let k = lowest_set(left);
-        let b = one(k);
-        left ^= b;
-        if within(pred[k as usize], placed) {
-            found |= b;
-        }
-    }
-    found
-}
-
-// Event `k` waits for each of `preds`: it goes to their masks of those that wait.
-fn add_waiting(succ: &mut [u32; SLOTS], preds: u32, k: u32)
-    requires { ⌜ (length (now succ) ≡ slots) × (k < slots) ⌝ }
-    ensures { λ _. ⌜ Added (now (succ .entry)) preds k (now (succ .exit)) ⌝ }
-{
-    let b = one(k);
-    let mut left = preds;
-    while left != 0 {
-        let e = lowest_set(left);
-        succ[e as usize] = succ[e as usize] | b;
-        left ^= one(e);
-    }
-}
-
-// For each event the mask of the events of `mem` that wait for it.
-pub fn successors(pred: &[u32; SLOTS], mem: u32) -> [u32; SLOTS]
-    requires { ⌜ mem < 2 ^ limit ⌝ }
-    ensures { λ r. ⌜ Prepared (now (pred .entry)) r mem ⌝ }
-{
-    let mut succ = [0u32; SLOTS];
-    let mut left = mem;
-    while left != 0 {
-        let k = lowest_set(left);
-        add_waiting(&mut succ, pred[k as usize], k);
-        left ^= one(k);
-    }
-    succ
-}
-
-// The masks once `e` is placed: of the events not placed yet only those that wait for `e` can have become ready.
-fn place(pred: &[u32; SLOTS], succ: &[u32; SLOTS], mem: u32, e: u32, placed: u32, can: u32) -> Masks
-    requires { ⌜ Prepared (now pred) (now succ) mem × Current (now pred) mem placed can × (bit can e ≡ true) ⌝ }
-    ensures { λ r. ⌜ (r .placed ≡ bitOr placed (2 ^ e)) × Current (now (pred .entry)) mem (r .placed) (r .can) ⌝ }
-{
-    let b = one(e);
-    let after = placed | b;
-    let rest = mem ^ (mem & after);
-    let found = ready_of(pred, succ[e as usize] & rest, after);
-    Masks {
-        placed: after,
-        can: (can ^ b) | found,
-    }
-}
-
-// The masks once `e`, the last that was placed, is taken back: those that wait for it may not come next, and it may.
-fn take_back(succ: &[u32; SLOTS], e: u32, placed: u32, can: u32) -> Masks
-    requires { ⌜ e < slots ⌝ }
-    ensures { λ r. ⌜ r .placed ≡ bitXor placed (2 ^ e) ⌝ }
-    ensures { λ r. ⌜ r .can ≡ bitOr (bitXor can (bitAnd can (getD (now (succ .entry)) e 0))) (2 ^ e) ⌝ }
-{
-    let b = one(e);
-    Masks {
-        placed: placed ^ b,
-        can: (can ^ (can & succ[e as usize])) | b,
-    }
 }
 
 // The bits of `m` past bit `e`.
@@ -138,7 +54,7 @@ pub fn load(
     ensures { λ r. ⌜ LoadedAs (now (pred .entry)) mem (now (start .entry)) (now (order .exit)) r ⌝ }
 {
     let mut placed: u32 = 0;
-    let mut can = ready_of(pred, mem, 0);
+    let mut can = ready_events::ready_of(pred, mem, 0);
     let mut len: usize = 0;
     while len < start.len() {
         let e = start[len];
@@ -146,7 +62,7 @@ pub fn load(
             return Loaded::Unclean;
         }
         order[len] = e;
-        let masks = place(pred, succ, mem, e as u32, placed, can);
+        let masks = ready_events::place(pred, succ, mem, e as u32, placed, can);
         placed = masks.placed;
         can = masks.can;
         len += 1;
@@ -177,10 +93,10 @@ pub fn next(
         }
         keep -= 1;
         let e = order[keep] as u32;
-        masks = take_back(succ, e, masks.placed, masks.can);
+        masks = ready_events::take_back(succ, e, masks.placed, masks.can);
         later = past(masks.can, e);
     }
     let e = lowest_set(later);
-    let after = place(pred, succ, mem, e, masks.placed, masks.can);
+    let after = ready_events::place(pred, succ, mem, e, masks.placed, masks.can);
     Step::Place(keep, e as u8, after)
 }

@@ -28,8 +28,8 @@ use Rattle.model.specs.Rules.{staticPpo}
 use Rattle.model.specs.Witness.{isMemoryEvent, isOrder, lawful, witness}
 use Rattle.model.specs.Prefixes.{isPrefix, predecessorsListed, clean, cleanPrefixes}
 use Rattle.model.proofs.PrefixLaws.{clean-listed, clean-ascending}
-use Rattle.engine.specs.CleanMasks.{slots, limit, ready, mayFollow, cleanFrom, cleanBy, masked}
-use Rattle.engine.proofs.CleanLaws.{clean-snoc}
+use Rattle.successors.specs.CleanMasks.{slots, limit, ready, mayFollow, cleanFrom, cleanBy, masked}
+use Rattle.ready_events.proofs.CleanLaws.{clean-snoc}
 use Rattle.engine.proofs.EngineLaws.{whole, masked-only, masked-each, masked-ascending}
 use Rattle.precedence.specs.Precedence.{predecessorMask, predecessorMasks, memoryMask}
 use Rattle.precedence.proofs.EntryLaws.{kept-has, kept-every, kept-distinct, all-same, all-last, before-last, distinct-last}

@@ -2,7 +2,7 @@
 use Prim.Native.Nat.{_≤_}
 use Rattle.edition.specs.Limits.{maxLocations}
 use Rattle.table.specs.declared.Table.{Table}
-use Rattle.engine.specs.CleanMasks.{limit}
+use Rattle.successors.specs.CleanMasks.{limit}
 
 -- the counts of a table that was read
 pub record Small (t : Table) : Type 0 where

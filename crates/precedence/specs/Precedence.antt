@@ -10,7 +10,7 @@ use Rattle.masks.specs.MaskOf.{maskOf}
 use Rattle.table.specs.declared.Table.{Table}
 use Rattle.table.specs.Events.{memoryEvents}
 use Rattle.model.specs.Rules.{staticPpo}
-use Rattle.engine.specs.CleanMasks.{slots}
+use Rattle.successors.specs.CleanMasks.{slots}
 
 -- the mask of the steady predecessors of b
 unfoldable pub predecessorMask : Table → ℕ → ℕ

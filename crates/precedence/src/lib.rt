@@ -1,11 +1,11 @@
 // The static part of preserved program order (static ppo) of a table, as the engine's masks.
 use edition::EventNo;
-use engine::SLOTS;
 use masks::one;
+use successors::SLOTS;
 use table::Table;
 ghost use Prim.Native.Nat.{_≤_, _<_};
 ghost use mathlib.Core.Path.{_≡_};
-ghost use Rattle.engine.specs.CleanMasks.{limit};
+ghost use Rattle.successors.specs.CleanMasks.{limit};
 ghost use Rattle.precedence.specs.Precedence.{predecessorMask, predecessorMasks, memoryMask};
 
 // The mask of the memory events.

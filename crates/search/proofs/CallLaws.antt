@@ -18,8 +18,9 @@ use Rattle.prefixes.specs.Walk.{Reply, refused, answered}
 use Rattle.prefixes.proofs.AnswerLaws.{seek-answer}
 use Rattle.model.specs.Witness.{witness}
 use Rattle.model.specs.Prefixes.{clean, cleanPrefixes, search}
-use Rattle.engine.specs.CleanMasks.{slots, limit, cleanBy}
-use Rattle.engine.specs.State.{Prepared, Began, Holds}
+use Rattle.successors.specs.CleanMasks.{slots, limit, cleanBy}
+use Rattle.successors.specs.Waiting.{Prepared}
+use Rattle.engine.specs.State.{Began, Holds}
 use Rattle.precedence.specs.Precedence.{predecessorMasks, memoryMask}
 use Rattle.precedence.proofs.PrecedenceLaws.{clean-same, memory-mask-small, memory-mask-ones}
 use Rattle.candidate.specs.CandidateLines.{startWrong, orderTooShort}

@@ -1,15 +1,15 @@
 // A search of a table: what a call is refused for, the walk to the next witness, and its prefix handed out.
 use engine::Loaded;
-use engine::Masks;
-use engine::SLOTS;
+use ready_events::Masks;
 use refusals::Refusal;
+use successors::SLOTS;
 use table::Table;
 use witness_walk::Outcome;
 ghost use Prim.Native.Nat.{_≤_};
 ghost use mathlib.Core.List.{_++_};
 ghost use mathlib.Core.Path.{_≡_};
 ghost use lib.ListN.{length, take, drop};
-ghost use Rattle.engine.specs.CleanMasks.{slots};
+ghost use Rattle.successors.specs.CleanMasks.{slots};
 ghost use Rattle.precedence.specs.Counts.{Small};
 ghost use Rattle.witness_walk.specs.Running.{AtMost};
 ghost use Rattle.search.specs.Replies.{outcomeBuffer, tableReply, bufferAfter, replyOf};
@@ -55,7 +55,7 @@ pub fn search(t: Table, start: &[u8], out: &mut [u8], allowance: u64) -> Reply
 {
     let pred = precedence::predecessors(t);
     let mem = precedence::memory_mask(t);
-    let succ = engine::successors(&pred, mem);
+    let succ = successors::successors(&pred, mem);
     let mut order = [0u8; SLOTS];
     let loaded = engine::load(&pred, &succ, mem, start, &mut order);
     match loaded {

@@ -1,5 +1,5 @@
 // Whether a whole order is a witness, by the verdict with the returns that it determines.
-use engine::SLOTS;
+use successors::SLOTS;
 use table::Table;
 use verdict::Verdict;
 ghost use Prim.Native.Nat.{_≤_};
@@ -7,7 +7,7 @@ ghost use mathlib.Core.Path.{_≡_};
 ghost use mathlib.Core.Bool.{true};
 ghost use lib.ListN.{length, take};
 ghost use Rattle.model.specs.Witness.{isOrder, witness};
-ghost use Rattle.engine.specs.CleanMasks.{slots};
+ghost use Rattle.successors.specs.CleanMasks.{slots};
 ghost use Rattle.precedence.specs.Counts.{Small};
 
 // The verdict for the order with the returns that it determines is "allowed".

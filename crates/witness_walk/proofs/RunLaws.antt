@@ -13,9 +13,9 @@ use Rattle.prefixes.specs.Listed.{after}
 use Rattle.prefixes.specs.Answer.{Answer, found, noneLeft, spent}
 use Rattle.model.specs.Witness.{isOrder, witness}
 use Rattle.model.specs.Prefixes.{clean, cleanPrefixes}
-use Rattle.engine.specs.CleanMasks.{slots, limit, cleanBy, masked}
+use Rattle.successors.specs.CleanMasks.{slots, limit, cleanBy, masked}
 use Rattle.engine.specs.State.{Holds, Moved, changed}
-use Rattle.engine.proofs.CleanLaws.{clean-ones, clean-short}
+use Rattle.ready_events.proofs.CleanLaws.{clean-ones, clean-short}
 use Rattle.engine.proofs.EngineLaws.{step-none, step-spent, step-found, step-on}
 use Rattle.precedence.specs.Precedence.{predecessorMasks, memoryMask}
 use Rattle.precedence.proofs.PrecedenceLaws.{clean-same, masked-same, memory-mask-ones, whole-order, not-whole}

@@ -10,8 +10,8 @@ use Rattle.prefixes.specs.Answer.{Answer}
 use Rattle.prefixes.specs.Statements.{seek}
 use Rattle.model.specs.Witness.{witness}
 use Rattle.model.specs.Prefixes.{cleanPrefixes}
-use Rattle.engine.specs.CleanMasks.{slots}
-use Rattle.engine.specs.State.{Prepared}
+use Rattle.successors.specs.CleanMasks.{slots}
+use Rattle.successors.specs.Waiting.{Prepared}
 use Rattle.precedence.specs.Counts.{Small}
 use Rattle.precedence.specs.Precedence.{predecessorMasks, memoryMask}
 use Rattle.prepared.specs.Prepared.{readersOf, rivalMasks, ownMasks, writerMasks}

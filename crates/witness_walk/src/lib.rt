@@ -1,8 +1,8 @@
 // The engine's walk over a table with a counted budget, which stops at the first witness.
 use edition::EditionOne;
-use engine::Masks;
-use engine::SLOTS;
 use engine::Step;
+use ready_events::Masks;
+use successors::SLOTS;
 use table::Table;
 ghost use mathlib.Core.Path.{_≡_};
 ghost use lib.ListN.{take};

@@ -2,7 +2,7 @@ use Prim.Native.Nat.{_-_, _<_}
 use mathlib.Core.Path.{refl}
 use native.Mathlib.Omega.{arith}
 use lib.ListN.{getD}
-use Rattle.engine.specs.CleanMasks.{limit}
+use Rattle.successors.specs.CleanMasks.{limit}
 use Rattle.engine.proofs.StepLaws.{Walking, walk-start, walk-room, walk-last, walk-end, walk-back}
 use Rattle.engine.proofs.StepLaws.{lowest-below, lowest-may, walk-next}
 use borrow.Author.Needs.{needs}

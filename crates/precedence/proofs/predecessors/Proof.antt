@@ -6,7 +6,7 @@ use lib.ListN.{drop}
 use borrow.Author.Needs.{needs}
 use Rattle.lists.specs.Filled.{upTo}
 use Rattle.lists.proofs.FilledLaws.{fill-more}
-use Rattle.engine.specs.CleanMasks.{slots}
+use Rattle.successors.specs.CleanMasks.{slots}
 use Rattle.precedence.specs.Precedence.{predecessorMask, predecessorMasks}
 use Rattle.precedence.proofs.LoopLaws.{fill-end}
 use Rattle.precedence.proofs.predecessors.Statement.{statement}

@@ -1,5 +1,5 @@
 use lib.ListN.{length}
-use Rattle.engine.specs.CleanMasks.{slots}
+use Rattle.successors.specs.CleanMasks.{slots}
 use Rattle.witness_walk.specs.Running.{AtMost}
 use mathlib.Core.Path.{subst}
 use borrow.Author.Needs.{needs}

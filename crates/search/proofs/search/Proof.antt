@@ -8,7 +8,7 @@ use lib.Count.{ones, ones-le}
 use mathlib.Core.List.{List}
 use mathlib.Core.Bool.{true, false}
 use Rattle.witness_walk.specs.Running.{Ran}
-use Rattle.engine.specs.CleanMasks.{slots}
+use Rattle.successors.specs.CleanMasks.{slots}
 use Rattle.engine.specs.State.{LoadedAs}
 use Rattle.search.proofs.CallLaws.{at-most, call-refused, call-answered, start-refused, room-refused, allowance-refused, none-refused, mask-small, tables-of, counted, count-small, clean-by, began-clean}
 use borrow.Author.Needs.{needs}

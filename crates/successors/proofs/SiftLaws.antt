@@ -10,7 +10,7 @@ use lib.Bits.{bitOr, bitXor}
 use lib.Count.{trailingZeros}
 use borrow.Author.Tests.{eqb-true}
 use Rattle.masks.specs.Bit.{bit}
-use Rattle.engine.specs.CleanMasks.{slots}
+use Rattle.successors.specs.CleanMasks.{slots}
 use Rattle.lists.proofs.BoolLaws.{xor-false}
 use Rattle.masks.proofs.BitLaws.{bit-or, bit-xor, bit-zero, bit-pow}
 use Rattle.masks.proofs.PowerLaws.{xor-pow, trailing-lowest}

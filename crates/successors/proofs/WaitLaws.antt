@@ -16,9 +16,9 @@ use Rattle.lists.proofs.BoolLaws.{xor-false}
 use Rattle.masks.specs.Bit.{bit}
 use Rattle.masks.proofs.BitLaws.{bit-zero}
 use Rattle.masks.proofs.PowerLaws.{xor-pow, trailing-lowest}
-use Rattle.engine.specs.CleanMasks.{slots, limit}
-use Rattle.engine.specs.State.{Added, Prepared}
-use Rattle.engine.proofs.SiftLaws.{bit-flipped, Sifted, sift-start, taken, sift-less, sift-take, sift-skip, sift-end}
+use Rattle.successors.specs.CleanMasks.{slots, limit}
+use Rattle.successors.specs.Waiting.{Added, Prepared}
+use Rattle.successors.proofs.SiftLaws.{bit-flipped, Sifted, sift-start, taken, sift-less, sift-take, sift-skip, sift-end}
 
 -- b goes to the entries of old that preds names; those of left are to come
 pub record Adding (old : List ℕ) (preds b left : ℕ) (succ : List ℕ) : Type 0 where

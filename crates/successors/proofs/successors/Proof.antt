@@ -1,8 +1,8 @@
 use native.Mathlib.Omega.{arith}
-use Rattle.engine.proofs.WaitLaws.{Telling, tell-start, tell-room, tell-less, tell-more, tell-end}
+use Rattle.successors.proofs.WaitLaws.{Telling, tell-start, tell-room, tell-less, tell-more, tell-end}
 use borrow.Author.Needs.{needs}
-use Rattle.engine.proofs.successors.Statement.{statement}
-use Rattle.engine.proofs.successors.Tie as tie
+use Rattle.successors.proofs.successors.Statement.{statement}
+use Rattle.successors.proofs.successors.Tie as tie
 
 abbrev Inv-loop : tie.InvT-loop
 Inv-loop pred mem succ₀ left₀ succ left = Telling pred mem left succ

@@ -1,9 +1,9 @@
 use mathlib.Core.Path.{sym, _∙_}
-use Rattle.engine.specs.CleanMasks.{ready}
-use Rattle.engine.proofs.SiftLaws.{Sifted, sift-start, taken, sift-less, sift-take, sift-skip, sift-end}
+use Rattle.successors.specs.CleanMasks.{ready}
+use Rattle.successors.proofs.SiftLaws.{Sifted, sift-start, taken, sift-less, sift-take, sift-skip, sift-end}
 use borrow.Author.Needs.{needs}
-use Rattle.engine.proofs.ready_of.Statement.{statement}
-use Rattle.engine.proofs.ready_of.Tie as tie
+use Rattle.ready_events.proofs.ready_of.Statement.{statement}
+use Rattle.ready_events.proofs.ready_of.Tie as tie
 
 abbrev Inv-loop : tie.InvT-loop
 Inv-loop pred rest placed left₀ found₀ left found = Sifted (ready pred placed) rest left found

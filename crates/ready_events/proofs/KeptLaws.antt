@@ -1,5 +1,5 @@
 -- The mask of the events that may come next, kept as events are placed and taken back.
-use Prim.Native.Nat.{ℕ, _^_}
+use Prim.Native.Nat.{ℕ, _^_, _<_}
 use mathlib.Core.Path.{_≡_, refl, sym, ap, ap₂, _∙_}
 use mathlib.Core.Bool.{Bool, true, false, not, _&&_, _||_, xor, or-false, or-true, true≢false}
 use mathlib.Core.List.{List}
@@ -12,10 +12,12 @@ use Rattle.masks.specs.Bit.{bit}
 use Rattle.masks.proofs.BitLaws.{bit-and, bit-or, bit-xor}
 use Rattle.masks.proofs.PowerLaws.{lt-pow}
 use Rattle.masks.proofs.SubsetLaws.{subset}
-use Rattle.engine.specs.CleanMasks.{ready, mayFollow}
-use Rattle.engine.specs.State.{Waiting, Current}
-use Rattle.engine.proofs.SiftLaws.{bit-with, bit-flipped}
-use Rattle.engine.proofs.CleanLaws.{fresh}
+use Rattle.masks.proofs.WithinLaws.{bit-below}
+use Rattle.successors.specs.CleanMasks.{limit, ready, mayFollow}
+use Rattle.successors.specs.Waiting.{Waiting, Prepared}
+use Rattle.ready_events.specs.Current.{Current}
+use Rattle.successors.proofs.SiftLaws.{bit-with, bit-flipped}
+use Rattle.ready_events.proofs.CleanLaws.{event, fresh}
 
 -- x is within m exactly when it is within m and e, and does not have e, where m has not
 within-less : (x m e : ℕ) → bit m e ≡ false → eqb (bitAnd x m) x ≡ (eqb (bitAnd x (bitOr m (2 ^ e))) x && not (bit x e))
@@ -152,3 +154,8 @@ module _ (preds : List ℕ) (mem : ℕ) where
       go false i =
           ap₂ (λ (c v : Bool). xor c (c && v) || false) (canNow ∙ ap (λ (x : Bool). bit mem k && not (bit placed k || x) && w) i) (t k)
           ∙ back-other (bit mem k) (bit placed k) w d ∙ sym before
+
+module _ {preds succs : List ℕ} {mem : ℕ} (tables : Prepared preds succs mem) where
+  -- what may come next is an event
+  pub can-below : (placed can e : ℕ) → Current preds mem placed can → bit can e ≡ true → e < limit
+  can-below placed can e s h = bit-below limit mem e (tables .small) (event preds mem placed e (sym (s e) ∙ h))

@@ -2,12 +2,12 @@ use Prim.Native.Nat.{_<_}
 use mathlib.Core.Path.{refl, ap}
 use native.Mathlib.Omega.{arith}
 use lib.Bits.{bitOr}
-use Rattle.engine.specs.CleanMasks.{limit}
-use Rattle.engine.proofs.StateLaws.{can-below}
-use Rattle.engine.proofs.KeptLaws.{place-current}
+use Rattle.successors.specs.CleanMasks.{limit}
+use Rattle.ready_events.proofs.KeptLaws.{can-below}
+use Rattle.ready_events.proofs.KeptLaws.{place-current}
 use borrow.Author.Needs.{needs}
-use Rattle.engine.proofs.place.Statement.{statement}
-use Rattle.engine.proofs.place.Tie as tie
+use Rattle.ready_events.proofs.place.Statement.{statement}
+use Rattle.ready_events.proofs.place.Tie as tie
 
 -- e is an event
 below : (c : tie.Start) → c .args .e < limit

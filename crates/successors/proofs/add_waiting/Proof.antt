@@ -1,7 +1,7 @@
-use Rattle.engine.proofs.WaitLaws.{Adding, coming, add-less, add-more, add-end}
+use Rattle.successors.proofs.WaitLaws.{Adding, coming, add-less, add-more, add-end}
 use borrow.Author.Needs.{needs}
-use Rattle.engine.proofs.add_waiting.Statement.{statement}
-use Rattle.engine.proofs.add_waiting.Tie as tie
+use Rattle.successors.proofs.add_waiting.Statement.{statement}
+use Rattle.successors.proofs.add_waiting.Tie as tie
 
 abbrev Inv-loop : tie.InvT-loop
 Inv-loop succ₀ preds k b left₀ succ left = Adding succ₀ preds b left succ

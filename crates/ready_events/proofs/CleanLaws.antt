@@ -19,7 +19,7 @@ use Rattle.masks.proofs.MaskOfLaws.{mask-has}
 use Rattle.masks.proofs.UnionLaws.{union-assoc}
 use Rattle.masks.proofs.WithinLaws.{ones-within}
 use Rattle.prefixes.specs.Statements.{PrefixClosed}
-use Rattle.engine.specs.CleanMasks.{ready, mayFollow, cleanFrom, cleanBy}
+use Rattle.successors.specs.CleanMasks.{ready, mayFollow, cleanFrom, cleanBy}
 
 -- to place e, then the rest, is to place e with the rest
 placed-then : (placed e : ℕ) (p : List ℕ) → bitOr (bitOr placed (2 ^ e)) (maskOf p) ≡ bitOr placed (maskOf (e ∷ p))
