@@ -6,8 +6,8 @@ use lib.ListN.{length, getD}
 use Rattle.refusals.specs.Lines.{Refused, accepted, byLine, byRecord}
 use Rattle.model.specs.Verdict.{Verdict, allowed, brokenPpo, brokenLoadValue, brokenAtomicity, brokenValueRead, brokenFinalValue}
 use Rattle.verdict.specs.Judged.{Judged, declined, judged}
-use Rattle.answers.specs.PairRules as pair
-use Rattle.answers.specs.PairRules.{Ruled, ruled}
+use Rattle.pair_rules.specs.PairRules as pair
+use Rattle.pair_rules.specs.PairRules.{Ruled, ruled}
 use Rattle.prefixes.specs.Answer.{Answer, found, noneLeft, spent}
 use Rattle.prefixes.specs.Walk.{Reply, refused, answered}
 

@@ -1,5 +1,5 @@
 // An answer as one word of 64 bits, for C.
-use answers::PairRules;
+use pair_rules::PairRules;
 use refusals::Refusal;
 use search::Reply;
 use verdict::Axiom;
@@ -11,7 +11,7 @@ ghost use lib.ListN.{length, take};
 ghost use Rattle.refusals.specs.Refusals.{refusalOf};
 ghost use Rattle.rules.specs.RuleMask.{rulesIn};
 ghost use Rattle.verdict.specs.Judged.{axiomOf, judgedOf};
-ghost use Rattle.answers.specs.PairRules.{ruledOf};
+ghost use Rattle.pair_rules.specs.PairRules.{ruledOf};
 ghost use Rattle.witness_walk.specs.Outcome.{outcomeOf};
 ghost use Rattle.search.specs.Replies.{replyOf};
 ghost use Rattle.answer_word.specs.Words.{word, refusalWord, rulesMask, lowestOf, verdictWord, judgedWord, ruledWord, answerWord, replyWord};

@@ -1,2 +1,1 @@
 pub mod CandidateLaws
-pub mod PairLaws

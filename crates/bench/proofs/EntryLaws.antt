@@ -21,9 +21,9 @@ use Rattle.candidate.specs.Buffers.{writtenUnless}
 use Rattle.search.specs.Replies.{startLines, answeredUnless, tableReply, bufferAfter}
 use Rattle.verdict.specs.Judged.{Judged, declined, judged}
 use Rattle.answers.specs.Candidate.{candidateLines, judgedUnless, orderLines}
-use Rattle.answers.specs.PairRules as pair
-use Rattle.answers.specs.PairRules.{Ruled, returnedLines, rulesBetween, ruledUnless}
-use Rattle.answers.proofs.PairLaws.{RuledAs}
+use Rattle.pair_rules.specs.PairRules as pair
+use Rattle.pair_rules.specs.PairRules.{Ruled, returnedLines, rulesBetween, ruledUnless}
+use Rattle.pair_rules.proofs.PairLaws.{RuledAs}
 use Rattle.bench.specs.Candidate.{verdictLines, verdictOf, returnsLines, returnsRefusal, returnsBuffer}
 use Rattle.bench.specs.PairRules.{rulesLines, rulesOf}
 use Rattle.bench.specs.Search.{searchLines, searchRefusal, searchReply, searchBuffer}

@@ -4,7 +4,7 @@ use mathlib.Core.List.{List, _++_}
 use Rattle.decode.specs.Decoded.{decoded}
 use Rattle.refusals.specs.Lines.{Line, firstLine}
 use Rattle.block.specs.Reading.{readingLines}
-use Rattle.answers.specs.PairRules.{Ruled, returnedLines, rulesBetween, ruledUnless}
+use Rattle.pair_rules.specs.PairRules.{Ruled, returnedLines, rulesBetween, ruledUnless}
 
 -- the lines of a pair: 1 to 11, 12, 14
 unfoldable pub rulesLines : List ℕ → List ℕ → List Line

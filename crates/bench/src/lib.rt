@@ -1,6 +1,6 @@
 // The public entries on bytes. Each takes any bytes, lists and numbers, refuses for itself, and has no `requires`.
-use answers::PairRules;
 use block::Reading;
+use pair_rules::PairRules;
 use refusals::Refusal;
 use search::Reply;
 use table::Table;
@@ -11,7 +11,7 @@ ghost use Rattle.block.specs.Reading.{readRefusal, readTable};
 ghost use Rattle.writer.specs.Writing.{writeRefusal, writtenBlock};
 ghost use Rattle.suite_part.specs.Part.{blockOf, blockCount};
 ghost use Rattle.verdict.specs.Judged.{judgedOf};
-ghost use Rattle.answers.specs.PairRules.{ruledOf};
+ghost use Rattle.pair_rules.specs.PairRules.{ruledOf};
 ghost use Rattle.search.specs.Replies.{replyOf};
 ghost use Rattle.bench.specs.Candidate.{verdictOf, returnsRefusal, returnsBuffer};
 ghost use Rattle.bench.specs.PairRules.{rulesOf};
@@ -68,7 +68,7 @@ pub fn rules(bytes: &[u8], returned: &[u8], a: u64, b: u64) -> PairRules
     let refusal = reading.refusal;
     let t = reading.table;
     match refusal {
-        Refusal::None => answers::pair(t, returned, a, b),
+        Refusal::None => pair_rules::pair(t, returned, a, b),
         Refusal::Line(n) => PairRules::Refused(Refusal::Line(n)),
         Refusal::Record(n, k) => PairRules::Refused(Refusal::Record(n, k)),
     }

@@ -1,8 +1,8 @@
 // Reads a stream of candidates, of pairs whose rules and of orders whose returned lists are asked for, and prints a line for each.
-use answers::PairRules;
 use console::Input;
 use console::Line;
 use edition::EventNo;
+use pair_rules::PairRules;
 use refusals::Refusal;
 use verdict::Axiom;
 use verdict::Verdict;

@@ -1,6 +1,6 @@
 use Rattle.answer_word.specs.Words.{word, ruledWord}
-use Rattle.answers.specs.PairRules.{ruledOf}
-use Rattle.answers.specs.declared.PairRules.{PairRules}
+use Rattle.pair_rules.specs.PairRules.{ruledOf}
+use Rattle.pair_rules.specs.declared.PairRules.{PairRules}
 use mathlib.Core.Path.{sym, ap, _∙_}
 use Prim.Native.Nat.{ℕ}
 use borrow.Author.Needs.{needs}

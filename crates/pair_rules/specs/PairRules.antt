@@ -10,8 +10,8 @@ use Rattle.model.specs.Rules.{ruleSet}
 use Rattle.model.specs.Witness.{isMemoryEvent}
 use Rattle.rules.specs.RuleMask.{rulesIn}
 use Rattle.candidate.specs.CandidateLines.{returnedLengthWrong, returnedWrong}
-use Rattle.answers.specs.declared.PairRules.{PairRules}
-use Rattle.answers.specs.declared.PairRules.the-variants.{Refused as RefusedCase, Held}
+use Rattle.pair_rules.specs.declared.PairRules.{PairRules}
+use Rattle.pair_rules.specs.declared.PairRules.the-variants.{Refused as RefusedCase, Held}
 
 -- a pair is declined, or ordered by some rules
 pub data Ruled : Type 0 where

@@ -1,11 +1,11 @@
-use Rattle.answers.proofs.PairLaws.{pair-12, pair-14, pair-none}
+use Rattle.pair_rules.proofs.PairLaws.{pair-12, pair-14, pair-none}
 use Rattle.candidate.specs.CandidateLines.{returnedLengthWrong}
 use borrow.Author.Tests.{eq-eqb, ne-eqb}
 use mathlib.Core.Bool.{not}
 use mathlib.Core.Path.{sym, ap, _∙_}
 use borrow.Author.Needs.{needs}
-use Rattle.answers.proofs.pair.Statement.{statement}
-use Rattle.answers.proofs.pair.Tie as tie
+use Rattle.pair_rules.proofs.pair.Statement.{statement}
+use Rattle.pair_rules.proofs.pair.Tie as tie
 
 cast-if1 : tie.Need-cast-if1
 cast-if1 c = search needs

@@ -13,7 +13,7 @@ use Rattle.refusals.proofs.LineLaws.{none-here, whole-here, whole-next}
 use Rattle.model.specs.Rules.{ruleSet}
 use Rattle.model.specs.Witness.{isMemoryEvent}
 use Rattle.candidate.specs.CandidateLines.{returnedLengthWrong, returnedWrong}
-use Rattle.answers.specs.PairRules.{Ruled, declined, ruled, returnedLines, onlyIf, rulesBetween, ruledUnless}
+use Rattle.pair_rules.specs.PairRules.{Ruled, declined, ruled, returnedLines, onlyIf, rulesBetween, ruledUnless}
 
 module _ (t : Table) (rf : List ℕ) (a b : ℕ) where
   -- the test that the definition makes of the pair, and the code's

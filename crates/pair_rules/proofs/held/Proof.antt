@@ -1,4 +1,4 @@
-use Rattle.answers.proofs.PairLaws.{pair-past, pair-late, pair-not, pair-ruled}
+use Rattle.pair_rules.proofs.PairLaws.{pair-past, pair-late, pair-not, pair-ruled}
 use Rattle.rules.proofs.MaskLaws.{rules-in}
 use Rattle.rules.specs.RuleMask.{rulesIn}
 use Rattle.table.specs.Events.{memory, reads, writes, po, kind, hart, event}
@@ -6,8 +6,8 @@ use borrow.Author.Tests.{not-true, not-false}
 use native.Mathlib.Omega.{arith}
 use mathlib.Core.Path.{sym, ap, _∙_}
 use borrow.Author.Needs.{needs}
-use Rattle.answers.proofs.held.Statement.{statement}
-use Rattle.answers.proofs.held.Tie as tie
+use Rattle.pair_rules.proofs.held.Statement.{statement}
+use Rattle.pair_rules.proofs.held.Tie as tie
 
 cast-if1 : tie.Need-cast-if1
 cast-if1 c = search needs
