@@ -9,7 +9,8 @@ use Rattle.edition.specs.Limits.{blockLength, maxEvents}
 use Rattle.table.specs.declared.Table.{Table}
 use Rattle.table.specs.Events.{event}
 use Rattle.checksum.specs.Checksum.{covered, checksum, weightedFrom}
-use Rattle.encode.specs.Encoded.{four, zeros, joined, headerZeros, initialBytes, recordBytes, recordsBytes, finalBytes, coveredBytes, checkBytes, encoded}
+use Rattle.record_bytes.specs.RecordBytes.{recordBytes}
+use Rattle.encode.specs.Encoded.{four, zeros, joined, headerZeros, initialBytes, recordsBytes, finalBytes, coveredBytes, checkBytes, encoded}
 use Rattle.encode.specs.Begun.{begun, header, front}
 use Rattle.encode.proofs.PutLaws.{length-joined, joined-more}
 use Rattle.encode.proofs.LengthLaws.{length-values, length-record, length-records, length-front, length-covered, length-encoded}

@@ -7,7 +7,8 @@ use Rattle.edition.specs.Limits.{blockLength}
 use Rattle.table.specs.declared.Event.{Event}
 use Rattle.table.specs.declared.Table.{Table}
 use Rattle.checksum.specs.Checksum.{covered}
-use Rattle.encode.specs.Encoded.{joined, valueBytes, recordBytes, recordsBytes, coveredBytes, checkBytes, encoded}
+use Rattle.record_bytes.specs.RecordBytes.{recordBytes}
+use Rattle.encode.specs.Encoded.{joined, valueBytes, recordsBytes, coveredBytes, checkBytes, encoded}
 use Rattle.encode.specs.Begun.{front}
 
 pub length-values : (vs : List ℕ) → length (valueBytes vs) ≡ 16

@@ -3,14 +3,10 @@ use Prim.Native.Nat.{ℕ, zero, suc, _/_, _%_}
 use mathlib.Core.List.{List, [], _∷_, _++_}
 use lib.ListN.{getD, replicate}
 use Rattle.edition.specs.Limits.{editionNumber, maxEvents, maxLocations}
-use Rattle.table.specs.declared.Event.{Event}
 use Rattle.table.specs.declared.Table.{Table}
 use Rattle.table.specs.Events.{event}
 use Rattle.checksum.specs.Checksum.{checksum}
-
--- "little endian": a number of two bytes, the low one first
-abbrev pub two : ℕ → List ℕ
-two n = n % 256 ∷ n / 256 % 256 ∷ []
+use Rattle.record_bytes.specs.RecordBytes.{two, recordBytes}
 
 -- a number of four bytes
 abbrev pub four : ℕ → List ℕ
@@ -48,22 +44,6 @@ headerZeros = zeros 7
 -- "16..31 | initial values, two bytes a location"
 abbrev pub initialBytes : Table → List ℕ
 initialBytes t = valueBytes (t .initial)
-
--- "Record: 0 kind, 1 hart, 2 location, 3 flags, .."
-abbrev pub codeBytes : Event → List ℕ
-codeBytes e = e .kind ∷ e .hart ∷ e .location .0 ∷ e .flags ∷ []
-
--- ".. 4..5 address mask, 6..7 data mask, 8..9 control mask, .."
-abbrev pub maskBytes : Event → List ℕ
-maskBytes e = two (e .addr) ++ two (e .«data») ++ two (e .ctrl)
-
--- "bytes 14 and 15 become an operation and an operand"
-abbrev pub operationBytes : Event → List ℕ
-operationBytes e = e .operation ∷ e .operand ∷ []
-
--- ".. 10..11 value read, 12..13 value written, .."
-unfoldable pub recordBytes : Event → List ℕ
-recordBytes e = codeBytes e ++ maskBytes e ++ two (e .read) ++ two (e .written) ++ operationBytes e
 
 -- "32..287 | event records, 16 bytes each"
 unfoldable pub recordsBytes : Table → List ℕ

@@ -1,35 +1,22 @@
 // The bytes that a table stands for. Whether it is a good table is for the refusals to say.
 use decode::At;
-use decode::Field;
 use decode::MARKER;
 use decode::RECORD;
 use decode::WORD;
 use edition::EditionOne;
-use table::Event;
 use table::Table;
-ghost use Prim.Native.Nat.{_+_, _*_, _≤_, _<_};
+ghost use Prim.Native.Nat.{_+_, _*_, _≤_};
 ghost use mathlib.Core.Path.{_≡_};
 ghost use mathlib.Core.List.{_++_};
 ghost use lib.ListN.{length};
 ghost use lib.Seq.{sets};
 ghost use Rattle.edition.specs.Limits.{blockLength, maxLocations};
 ghost use Rattle.checksum.specs.Checksum.{checksum};
-ghost use Rattle.encode.specs.Encoded.{two, four, valueBytes, markerBytes, countBytes, codeBytes, maskBytes, operationBytes, recordBytes, recordsBytes, encoded};
+ghost use Rattle.encode.specs.Encoded.{four, valueBytes, markerBytes, countBytes, recordsBytes, encoded};
 ghost use Rattle.encode.specs.Begun.{begun, header, front};
 
-// How many numbers there are of one byte, and of two.
-const BYTES: u32 = 256;
-
+// How many numbers there are of two bytes.
 const WORDS: u32 = 65536;
-
-// Sets a number of two bytes, the low one first.
-fn put_word(block: &mut [u8], at: usize, n: u32)
-    requires { ⌜ at + 1 < length (now block) ⌝ }
-    ensures { λ r. ⌜ now (block .exit) ≡ sets (now (block .entry)) at (two n) ⌝ }
-{
-    block[at] = (n % BYTES) as u8;
-    block[at + 1] = (n / BYTES % BYTES) as u8;
-}
 
 fn put_marker(block: &mut [u8])
     requires { ⌜ length (now block) ≡ blockLength ⌝ }
@@ -68,48 +55,9 @@ fn put_values(block: &mut [u8], at: usize, values: [u16; EditionOne::LOCATIONS])
 {
     let mut x: usize = 0;
     while x < EditionOne::LOCATIONS {
-        put_word(block, at + WORD * x, values[x] as u32);
+        record_bytes::put_word(block, at + WORD * x, values[x] as u32);
         x += 1;
     }
-}
-
-fn put_codes(block: &mut [u8], at: usize, e: Event)
-    requires { ⌜ at + 4 ≤ length (now block) ⌝ }
-    ensures { λ r. ⌜ now (block .exit) ≡ sets (now (block .entry)) at (codeBytes e) ⌝ }
-{
-    block[at + Field::KIND] = e.kind;
-    block[at + Field::HART] = e.hart;
-    block[at + Field::LOCATION] = e.location.0;
-    block[at + Field::FLAGS] = e.flags;
-}
-
-fn put_masks(block: &mut [u8], at: usize, e: Event)
-    requires { ⌜ at + 10 ≤ length (now block) ⌝ }
-    ensures { λ r. ⌜ now (block .exit) ≡ sets (now (block .entry)) (at + 4) (maskBytes e) ⌝ }
-{
-    put_word(block, at + Field::ADDR, e.addr);
-    put_word(block, at + Field::DATA, e.data);
-    put_word(block, at + Field::CTRL, e.ctrl);
-}
-
-fn put_operation(block: &mut [u8], at: usize, e: Event)
-    requires { do ⌜ at + (← ⟦RECORD⟧) ≤ length (now block) ⌝ }
-    ensures { λ r. ⌜ now (block .exit) ≡ sets (now (block .entry)) (at + 14) (operationBytes e) ⌝ }
-{
-    block[at + Field::OPERATION] = e.operation;
-    block[at + Field::OPERAND] = e.operand;
-}
-
-// Sets the record whose first byte is at `at`.
-fn put_record(block: &mut [u8], at: usize, e: Event)
-    requires { do ⌜ at + (← ⟦RECORD⟧) ≤ length (now block) ⌝ }
-    ensures { λ r. ⌜ now (block .exit) ≡ sets (now (block .entry)) at (recordBytes e) ⌝ }
-{
-    put_codes(block, at, e);
-    put_masks(block, at, e);
-    put_word(block, at + Field::READ, e.read as u32);
-    put_word(block, at + Field::WRITTEN, e.written as u32);
-    put_operation(block, at, e);
 }
 
 // Sets the block's records: the first slots of the table.
@@ -119,7 +67,7 @@ fn put_records(block: &mut [u8], t: Table)
 {
     let mut k: usize = 0;
     while k < EditionOne::EVENTS {
-        put_record(block, At::RECORDS + RECORD * k, t.events[k]);
+        record_bytes::put_record(block, At::RECORDS + RECORD * k, t.events[k]);
         k += 1;
     }
 }
@@ -130,8 +78,8 @@ fn put_check(block: &mut [u8])
     ensures { λ r. ⌜ now (block .exit) ≡ sets (now (block .entry)) 508 (four (checksum (now (block .entry)))) ⌝ }
 {
     let check = checksum::checksum(&*block);
-    put_word(block, At::CHECK, check);
-    put_word(block, At::CHECK + WORD, check / WORDS);
+    record_bytes::put_word(block, At::CHECK, check);
+    record_bytes::put_word(block, At::CHECK + WORD, check / WORDS);
 }
 
 // A block starts as zeros, and the named fields are set.

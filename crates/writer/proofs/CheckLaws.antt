@@ -12,7 +12,8 @@ use Rattle.table.specs.declared.Table.{Table}
 use Rattle.table.specs.Events.{event}
 use Rattle.checksum.specs.Checksum.{covered, weightedFrom, checksum}
 use Rattle.decode.specs.Layout.{byteAt}
-use Rattle.encode.specs.Encoded.{two, zeros, joined, valueBytes, markerBytes, countBytes, statedBytes, headerZeros, initialBytes, codeBytes, maskBytes, operationBytes, recordBytes, recordsBytes, finalBytes, tailZeros, coveredBytes, checkBytes, encoded}
+use Rattle.record_bytes.specs.RecordBytes.{two, codeBytes, maskBytes, operationBytes, recordBytes}
+use Rattle.encode.specs.Encoded.{zeros, joined, valueBytes, markerBytes, countBytes, statedBytes, headerZeros, initialBytes, recordsBytes, finalBytes, tailZeros, coveredBytes, checkBytes, encoded}
 use Rattle.encode.specs.Begun.{header, front}
 use Rattle.encode.proofs.LengthLaws.{length-covered}
 use Rattle.writer.specs.Fits.{Bytes, EventFits, TableFits}

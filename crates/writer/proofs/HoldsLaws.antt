@@ -7,7 +7,8 @@ use lib.ListN.{length, getD, length-append}
 use Rattle.edition.specs.Limits.{maxEvents, maxLocations}
 use Rattle.table.specs.declared.Table.{Table}
 use Rattle.table.specs.Events.{event}
-use Rattle.encode.specs.Encoded.{two, valueBytes, markerBytes, countBytes, statedBytes, headerZeros, initialBytes, recordBytes, recordsBytes, finalBytes, tailZeros, coveredBytes}
+use Rattle.record_bytes.specs.RecordBytes.{two, recordBytes}
+use Rattle.encode.specs.Encoded.{valueBytes, markerBytes, countBytes, statedBytes, headerZeros, initialBytes, recordsBytes, finalBytes, tailZeros, coveredBytes}
 use Rattle.encode.specs.Begun.{header, front}
 use Rattle.encode.proofs.LengthLaws.{length-values, length-record, length-records, length-front}
 use Rattle.writer.proofs.StandsLaws.{Stands, stands-left, stands-right, stands-both, stands-each, stands-joined}

@@ -23,7 +23,8 @@ use Rattle.refusals.specs.TableLines.{tableLines}
 use Rattle.refusals.proofs.LineLaws.{whole-next}
 use Rattle.zero_bytes.specs.ZeroBytes.{bytesNotZero}
 use Rattle.block.specs.Reading.{tableIf, readingLines, readRefusal, readTable}
-use Rattle.encode.specs.Encoded.{two, four, recordBytes, coveredBytes, checkBytes, encoded}
+use Rattle.record_bytes.specs.RecordBytes.{two, recordBytes}
+use Rattle.encode.specs.Encoded.{four, coveredBytes, checkBytes, encoded}
 use Rattle.encode.proofs.LengthLaws.{length-record, length-covered, length-encoded}
 use Rattle.writer.specs.Fits.{EventFits, ValuesFit, TableFits}
 use Rattle.writer.proofs.StandsLaws.{Stands, stands-self, stands-left, stands-right, zeros-stand}

@@ -23,7 +23,8 @@ use Rattle.refusals.specs.TableLines.{line5, line6, recordLines, tableLines}
 use Rattle.refusals.proofs.LineLaws.{whole-off}
 use Rattle.zero_bytes.specs.ZeroBytes.{headerZeros, tailZeros, bytesNotZero}
 use Rattle.block.specs.Reading.{line1, line2, line3, line4, readingLines, readRefusal}
-use Rattle.encode.specs.Encoded.{two, four, markerBytes, countBytes, statedBytes, codeBytes, maskBytes, operationBytes, recordBytes, coveredBytes, checkBytes, encoded}
+use Rattle.record_bytes.specs.RecordBytes.{two, codeBytes, maskBytes, operationBytes, recordBytes}
+use Rattle.encode.specs.Encoded.{four, markerBytes, countBytes, statedBytes, coveredBytes, checkBytes, encoded}
 use Rattle.encode.proofs.LengthLaws.{length-covered, length-encoded}
 use Rattle.writer.specs.Fits.{Bytes}
 use Rattle.writer.proofs.StandsLaws.{Stands, stands-all, stands-both, stands-zeros, entries-stand}

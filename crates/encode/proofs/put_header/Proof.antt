@@ -1,6 +1,11 @@
+use Prim.Native.Nat.{ℕ}
+use mathlib.Core.List.{List}
+use mathlib.Core.Path.{ap, _∙_}
 use native.Mathlib.Omega.{arith}
-use lib.ListN.{length-set}
+use lib.ListN.{set, length-set}
+use lib.Seq.{sets}
 use borrow.Author.Needs.{needs}
+use Rattle.encode.specs.Encoded.{countBytes}
 use Rattle.encode.proofs.put_header.Statement.{statement}
 use Rattle.encode.proofs.put_header.Tie as tie
 
@@ -17,7 +22,11 @@ same-length : tie.Need-same-length
 same-length c = omega (arith, length-set (c .before .before .put-counts .last .0) 8 (c .before .before .before .before .before .before .before .before .before .args .t .stated))
 
 returns : tie.Need-returns
-returns c = cc
+returns c =
+    let at-counts = c .before .before in
+    let at-marker = at-counts .before .before .before .before in
+    let t = at-marker .before .before .before .args .t in
+    ap (λ (l : List ℕ). set l 8 (t .stated)) (at-counts .put-counts .ensures ∙ ap (λ (l : List ℕ). sets l 4 (countBytes t)) (at-marker .put-marker .ensures))
 
 pub put-header-spec : {M : Type 1} → statement M
 put-header-spec =

@@ -7,7 +7,8 @@ use lib.ListN.{length}
 use borrow.Author.Needs.{needs}
 use Rattle.edition.specs.Limits.{maxEvents}
 use Rattle.table.specs.Events.{event}
-use Rattle.encode.specs.Encoded.{joined, recordBytes}
+use Rattle.record_bytes.specs.RecordBytes.{recordBytes}
+use Rattle.encode.specs.Encoded.{joined}
 use Rattle.encode.specs.Begun.{begun, front}
 use Rattle.encode.proofs.BegunLaws.{begun-record, begun-records, begun-start, length-begun-front}
 use Rattle.encode.proofs.put_records.Statement.{statement}

@@ -6,7 +6,8 @@ use lib.ListN.{length, getD}
 use lib.Seq.{sets}
 use borrow.Author.Needs.{needs}
 use Rattle.edition.specs.Limits.{maxLocations}
-use Rattle.encode.specs.Encoded.{two, joined}
+use Rattle.record_bytes.specs.RecordBytes.{two}
+use Rattle.encode.specs.Encoded.{joined}
 use Rattle.encode.proofs.PutLaws.{values-more, values-done}
 use Rattle.encode.proofs.put_values.Statement.{statement}
 use Rattle.encode.proofs.put_values.Tie as tie

@@ -3,8 +3,8 @@ use mathlib.Core.Path.{_≡_, ap}
 use native.Mathlib.Omega.{arith}
 use lib.ListN.{set, length-set}
 use borrow.Author.Needs.{needs}
-use Rattle.encode.proofs.put_operation.Statement.{statement}
-use Rattle.encode.proofs.put_operation.Tie as tie
+use Rattle.record_bytes.proofs.put_operation.Statement.{statement}
+use Rattle.record_bytes.proofs.put_operation.Tie as tie
 
 add-block : tie.Need-add-block
 add-block c = search needs

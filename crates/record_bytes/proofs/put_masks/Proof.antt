@@ -3,10 +3,10 @@ use mathlib.Core.List.{_++_}
 use mathlib.Core.Path.{_∙_}
 use native.Mathlib.Omega.{arith}
 use borrow.Author.Needs.{needs}
-use Rattle.encode.specs.Encoded.{two}
-use Rattle.encode.proofs.PutLaws.{sets-more}
-use Rattle.encode.proofs.put_masks.Statement.{statement}
-use Rattle.encode.proofs.put_masks.Tie as tie
+use Rattle.record_bytes.specs.RecordBytes.{two}
+use Rattle.record_bytes.proofs.SetLaws.{sets-more}
+use Rattle.record_bytes.proofs.put_masks.Statement.{statement}
+use Rattle.record_bytes.proofs.put_masks.Tie as tie
 
 add-put-word : tie.Need-add-put-word
 add-put-word c = search needs

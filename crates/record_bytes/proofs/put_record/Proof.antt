@@ -3,10 +3,10 @@ use mathlib.Core.List.{_++_}
 use mathlib.Core.Path.{_∙_}
 use native.Mathlib.Omega.{arith}
 use borrow.Author.Needs.{needs}
-use Rattle.encode.specs.Encoded.{two, codeBytes, maskBytes, operationBytes, recordBytes}
-use Rattle.encode.proofs.PutLaws.{sets-more}
-use Rattle.encode.proofs.put_record.Statement.{statement}
-use Rattle.encode.proofs.put_record.Tie as tie
+use Rattle.record_bytes.specs.RecordBytes.{two, codeBytes, maskBytes, operationBytes, recordBytes}
+use Rattle.record_bytes.proofs.SetLaws.{sets-more}
+use Rattle.record_bytes.proofs.put_record.Statement.{statement}
+use Rattle.record_bytes.proofs.put_record.Tie as tie
 
 put-codes-requires : tie.Need-put-codes-requires
 put-codes-requires c κs = search needs

@@ -1,8 +1,8 @@
 use Prim.Native.Nat.{_/_, _%_}
 use borrow.Author.Needs.{needs}
-use Rattle.encode.proofs.PutLaws.{set-two}
-use Rattle.encode.proofs.put_word.Statement.{statement}
-use Rattle.encode.proofs.put_word.Tie as tie
+use Rattle.record_bytes.proofs.SetLaws.{set-two}
+use Rattle.record_bytes.proofs.put_word.Statement.{statement}
+use Rattle.record_bytes.proofs.put_word.Tie as tie
 
 cast-block : tie.Need-cast-block
 cast-block c = search needs

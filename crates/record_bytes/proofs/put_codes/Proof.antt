@@ -2,9 +2,9 @@ use Prim.Native.Nat.{_+_}
 use native.Mathlib.Omega.{arith}
 use lib.ListN.{set, length-set}
 use borrow.Author.Needs.{needs}
-use Rattle.encode.proofs.PutLaws.{set-four}
-use Rattle.encode.proofs.put_codes.Statement.{statement}
-use Rattle.encode.proofs.put_codes.Tie as tie
+use Rattle.record_bytes.proofs.SetLaws.{set-four}
+use Rattle.record_bytes.proofs.put_codes.Statement.{statement}
+use Rattle.record_bytes.proofs.put_codes.Tie as tie
 
 add-block : tie.Need-add-block
 add-block c = search needs
