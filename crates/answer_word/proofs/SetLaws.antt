@@ -6,8 +6,8 @@ use mathlib.Core.List.{List, [], _∷_}
 use native.Mathlib.Nat.{mul-assoc, mul-suc}
 use native.Mathlib.Omega.{arith}
 use Rattle.model.specs.Rules.{numbered}
-use Rattle.rules.specs.RuleMask.{setMask, bitsOf, rulesIn}
-use Rattle.rules.proofs.MaskLaws.{bits-mask}
+use Rattle.rule_sets.specs.RuleMask.{setMask, bitsOf, rulesIn}
+use Rattle.rule_sets.proofs.MaskLaws.{bits-mask}
 use Rattle.model.specs.Verdict.{brokenPpo}
 use Rattle.answer_word.specs.Words.{word, rulesMask, lowestOf, verdictWord}
 

@@ -9,7 +9,7 @@ ghost use Prim.Native.Nat.{_^_, _<_};
 ghost use mathlib.Core.Path.{_≡_};
 ghost use lib.ListN.{length, take};
 ghost use Rattle.refusals.specs.Refusals.{refusalOf};
-ghost use Rattle.rules.specs.RuleMask.{rulesIn};
+ghost use Rattle.rule_sets.specs.RuleMask.{rulesIn};
 ghost use Rattle.verdict.specs.Judged.{axiomOf, judgedOf};
 ghost use Rattle.pair_rules.specs.PairRules.{ruledOf};
 ghost use Rattle.witness_walk.specs.Outcome.{outcomeOf};
@@ -86,7 +86,7 @@ fn upper_half(set: u16) -> u64
 fn lowest(set: u16) -> u8
     ensures { λ r. ⌜ r ≡ lowestOf (rulesIn set) ⌝ }
 {
-    rules::lowest_rule(set)
+    rule_sets::lowest_rule(set)
 }
 
 fn axiom_word(place: Axiom) -> u64

@@ -8,7 +8,7 @@ use Rattle.refusals.specs.Lines.{Refused, accepted, byLine, byRecord, Line, who
 use Rattle.refusals.specs.Refusals.{refusalOf}
 use Rattle.model.specs.Rules.{ruleSet}
 use Rattle.model.specs.Witness.{isMemoryEvent}
-use Rattle.rules.specs.RuleMask.{rulesIn}
+use Rattle.rule_sets.specs.RuleMask.{rulesIn}
 use Rattle.candidate.specs.CandidateLines.{returnedLengthWrong, returnedWrong}
 use Rattle.pair_rules.specs.declared.PairRules.{PairRules}
 use Rattle.pair_rules.specs.declared.PairRules.the-variants.{Refused as RefusedCase, Held}

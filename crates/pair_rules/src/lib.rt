@@ -5,7 +5,7 @@ use table::Table;
 ghost use mathlib.Core.Path.{_≡_};
 ghost use lib.ListN.{length};
 ghost use Rattle.refusals.specs.Lines.{firstLine};
-ghost use Rattle.rules.specs.RuleMask.{rulesIn};
+ghost use Rattle.rule_sets.specs.RuleMask.{rulesIn};
 ghost use Rattle.precedence.specs.Counts.{Small};
 ghost use Rattle.pair_rules.specs.PairRules.{returnedLines, rulesBetween, ruledUnless, ruledOf};
 

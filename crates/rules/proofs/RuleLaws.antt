@@ -7,8 +7,8 @@ use lib.Dec.{eqb}
 use Rattle.table.specs.declared.Table.{Table}
 use Rattle.model.specs.Rules.{rules, mayOrder, ppo}
 use Rattle.model.specs.Rules.{rule1, rule2, rule3, rule4, rule5, rule6, rule7, rule8, rule9, rule10, rule11, rule12, rule13}
-use Rattle.rules.specs.RuleMask.{setMask}
-use Rattle.rules.proofs.MaskLaws.{mask-any}
+use Rattle.rule_sets.specs.RuleMask.{setMask}
+use Rattle.rule_sets.proofs.MaskLaws.{mask-any}
 
 -- the thirteen tests, each that of its rule
 pub held : (t : Table) (rf : List ℕ) (a b : ℕ) {r1 r2 r3 r4 r5 r6 r7 r8 r9 r10 r11 r12 r13 : Bool}

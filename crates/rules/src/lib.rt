@@ -9,6 +9,7 @@ use overlap::rule2;
 use overlap::rule3;
 use pipeline::rule12;
 use pipeline::rule13;
+use rule_sets::RULES;
 use static_rules::may_order;
 use synchronization::rule4;
 use synchronization::rule5;
@@ -21,9 +22,7 @@ ghost use mathlib.Core.Path.{_≡_};
 ghost use lib.ListN.{length};
 ghost use Rattle.table.specs.Events.{capacity};
 ghost use Rattle.model.specs.Rules.{rules, ppo};
-ghost use Rattle.rules.specs.RuleMask.{setMask, lowestIn};
-
-const RULES: usize = 13;
+ghost use Rattle.rule_sets.specs.RuleMask.{setMask};
 
 // Which of the thirteen hold, in their order.
 fn rules(t: Table, rf: &[u8], a: EventNo, b: EventNo) -> [bool; RULES]
@@ -52,35 +51,12 @@ fn rules(t: Table, rf: &[u8], a: EventNo, b: EventNo) -> [bool; RULES]
     ]
 }
 
-// The set of the tests that hold: the first is bit 0.
-fn set_mask(held: [bool; RULES]) -> u16
-    ensures { λ r. ⌜ r ≡ setMask held ⌝ }
-{
-    let mut set: u16 = 0;
-    let mut k: usize = RULES;
-    while 0 < k {
-        k -= 1;
-        set = set * 2 + held[k] as u16;
-    }
-    set
-}
-
 // The set of the rules that hold: bit r - 1 for rule r.
 pub fn rule_set(t: Table, rf: &[u8], a: EventNo, b: EventNo) -> u16
     requires { ⌜ (a .0 < t .count) × (b .0 < t .count) × (t .count ≤ capacity) × (length (now rf) ≡ t .count) ⌝ }
     ensures { λ r. ⌜ r ≡ setMask (rules t (now (rf .entry)) (a .0) (b .0)) ⌝ }
 {
-    set_mask(rules(t, rf, a, b))
-}
-
-// The lowest rule of a set; 0 for none.
-pub fn lowest_rule(set: u16) -> u8
-    ensures { λ r. ⌜ r ≡ lowestIn set ⌝ }
-{
-    if set == 0 {
-        return 0;
-    }
-    u16::trailing_zeros(set) as u8 + 1
+    rule_sets::set_mask(rules(t, rf, a, b))
 }
 
 // Preserved program order puts a before b.

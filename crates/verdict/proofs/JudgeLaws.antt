@@ -9,8 +9,8 @@ use Rattle.model.specs.Rules.{rules, ruleSet}
 use Rattle.model.specs.Axioms.{breaksPpo, breaksLoadValue, breaksAtomicity, atomicityWriter, breaksValueRead, breaksFinalValue}
 use Rattle.model.specs.Verdict.{Verdict, allowed, brokenPpo, brokenLoadValue, brokenAtomicity, brokenValueRead, brokenFinalValue}
 use Rattle.model.specs.Verdict.{brokenAt, ppoBreak, verdict}
-use Rattle.rules.specs.RuleMask.{setMask, rulesIn}
-use Rattle.rules.proofs.MaskLaws.{rules-in}
+use Rattle.rule_sets.specs.RuleMask.{setMask, rulesIn}
+use Rattle.rule_sets.proofs.MaskLaws.{rules-in}
 use Rattle.verdict.specs.Pairs.{LowestPair}
 use Rattle.atomicity.proofs.LowestLaws.{some-below, none-below}
 

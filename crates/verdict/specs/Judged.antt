@@ -2,7 +2,7 @@
 use Rattle.refusals.specs.Lines as lines
 use Rattle.refusals.specs.Refusals.{refusalOf}
 use Rattle.model.specs.Verdict as model
-use Rattle.rules.specs.RuleMask.{rulesIn}
+use Rattle.rule_sets.specs.RuleMask.{rulesIn}
 use Rattle.verdict.specs.declared.Axiom.{Axiom}
 use Rattle.verdict.specs.declared.Axiom.the-variants.{PreservedOrder, LoadValue, Atomicity, ValueRead, FinalValue}
 use Rattle.verdict.specs.declared.Verdict.{Verdict}

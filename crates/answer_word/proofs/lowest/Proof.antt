@@ -1,5 +1,5 @@
 use Rattle.answer_word.specs.Words.{lowestOf}
-use Rattle.rules.proofs.MaskLaws.{lowest-in}
+use Rattle.rule_sets.proofs.MaskLaws.{lowest-in}
 use native.Mathlib.Omega.{arith}
 use mathlib.Core.Path.{_∙_}
 use borrow.Author.Needs.{needs}

@@ -1,6 +1,6 @@
 use Rattle.pair_rules.proofs.PairLaws.{pair-past, pair-late, pair-not, pair-ruled}
-use Rattle.rules.proofs.MaskLaws.{rules-in}
-use Rattle.rules.specs.RuleMask.{rulesIn}
+use Rattle.rule_sets.proofs.MaskLaws.{rules-in}
+use Rattle.rule_sets.specs.RuleMask.{rulesIn}
 use Rattle.table.specs.Events.{memory, reads, writes, po, kind, hart, event}
 use borrow.Author.Tests.{not-true, not-false}
 use native.Mathlib.Omega.{arith}

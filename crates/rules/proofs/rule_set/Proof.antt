@@ -1,6 +1,6 @@
 use mathlib.Core.Path.{ap, _∙_}
 use borrow.Author.Needs.{needs}
-use Rattle.rules.specs.RuleMask.{setMask}
+use Rattle.rule_sets.specs.RuleMask.{setMask}
 use Rattle.rules.proofs.rule_set.Statement.{statement}
 use Rattle.rules.proofs.rule_set.Tie as tie
 

@@ -15,7 +15,7 @@ use borrow.Author.Tests.{ne-eqb}
 use Rattle.lists.specs.Lists.{any}
 use Rattle.table.specs.declared.Table.{Table}
 use Rattle.model.specs.Rules.{holds, numbered, rules, ruleSet}
-use Rattle.rules.specs.RuleMask.{setMask, bitsOf, rulesIn, lowestIn}
+use Rattle.rule_sets.specs.RuleMask.{setMask, bitsOf, rulesIn, lowestIn}
 
 -- a set of n tests is a mask of n bits
 mask-lt : (bs : List Bool) → setMask bs < 2 ^ length bs

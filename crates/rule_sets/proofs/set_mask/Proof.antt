@@ -2,11 +2,11 @@ use Prim.Native.Nat.{ℕ, _-_, _≤_}
 use mathlib.Core.Path.{_≡_, ap, _∙_}
 use native.Mathlib.Omega.{arith}
 use lib.ListN.{length, drop}
-use Rattle.rules.specs.RuleMask.{setMask}
-use Rattle.rules.proofs.MaskLaws.{mask-none, mask-more, mask-fits}
+use Rattle.rule_sets.specs.RuleMask.{setMask}
+use Rattle.rule_sets.proofs.MaskLaws.{mask-none, mask-more, mask-fits}
 use borrow.Author.Needs.{needs}
-use Rattle.rules.proofs.set_mask.Statement.{statement}
-use Rattle.rules.proofs.set_mask.Tie as tie
+use Rattle.rule_sets.proofs.set_mask.Statement.{statement}
+use Rattle.rule_sets.proofs.set_mask.Tie as tie
 
 abbrev Inv-loop : tie.InvT-loop
 Inv-loop held set₀ k₀ set k = (k ≤ 13) × (set ≡ setMask (drop k held))

@@ -1,8 +1,8 @@
 use native.Mathlib.Omega.{arith}
 use lib.Count.{trailing-le}
 use borrow.Author.Tests.{eq-eqb, ne-eqb}
-use Rattle.rules.proofs.lowest_rule.Statement.{statement}
-use Rattle.rules.proofs.lowest_rule.Tie as tie
+use Rattle.rule_sets.proofs.lowest_rule.Statement.{statement}
+use Rattle.rule_sets.proofs.lowest_rule.Tie as tie
 
 returns : tie.Need-returns
 returns c = rw (eq-eqb _ _ (c .if1 .taken))
