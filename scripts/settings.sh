@@ -1,7 +1,16 @@
 # Settings that make rt's checks quicker; the scripts that call rt source this. What is set already stays.
 
-# More jobs than cores: rt starts some at once and waits for all of them before it starts the next.
-export RT_JOBS=${RT_JOBS:-$((2 * $(nproc)))}
+job_kib=1500000
+
+# More jobs than cores, as far as memory goes: rt starts some at once and waits for all of them before it starts the next.
+most_jobs() {
+    local jobs=$((4 * $(nproc))) room
+    room=$(awk -v job="$job_kib" '/^MemAvailable:/ { print int($2 / job) }' /proc/meminfo)
+    if [ "${room:-1}" -lt 1 ]; then room=1; fi
+    echo $((room < jobs ? room : jobs))
+}
+
+export RT_JOBS=${RT_JOBS:-$(most_jobs)}
 
 memory=/dev/shm
 room_kib=2000000
