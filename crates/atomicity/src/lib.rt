@@ -3,6 +3,7 @@ use edition::EventNo;
 use global_order::before;
 use reads_from::INITIALLY;
 use reads_from::returned_from;
+use table::Kind;
 use table::Table;
 ghost use Prim.Native.Nat.{_≤_, _<_};
 ghost use mathlib.Core.Path.{_≡_};
@@ -77,13 +78,18 @@ fn lowest_sc(t: Table, rf: &[u8], gmo: &[u8], l: EventNo) -> u8
     t.count
 }
 
-// The lowest LR at which atomicity breaks; the number of events if there is none.
+// The lowest LR at which atomicity breaks; the number of events if there is none. Of other events no call, which would copy
+// the table.
 pub fn lowest_lr(t: Table, rf: &[u8], gmo: &[u8]) -> u8
     requires { ⌜ (t .count ≤ capacity) × (length (now rf) ≡ t .count) ⌝ }
     ensures { λ r. ⌜ r ≡ lowest (t .count) (breaksAtomicity t (now (rf .entry)) (now (gmo .entry))) ⌝ }
 {
     let mut l: u8 = 0;
     while l < t.count {
+        if t.events[l as usize].kind != Kind::LR {
+            l += 1;
+            continue;
+        }
         if lowest_sc(t, rf, gmo, EventNo(l)) < t.count {
             return l;
         }

@@ -9,12 +9,14 @@ use table::Event;
 use table::Table;
 ghost use Prim.Native.Nat.{_≤_, _<_};
 ghost use mathlib.Core.Path.{_≡_};
+ghost use mathlib.Core.Bool.{_&&_, _||_, not};
 ghost use mathlib.Core.List.{_++_};
 ghost use lib.ListN.{length, drop};
-ghost use Rattle.lists.specs.Lists.{lastOr};
-ghost use Rattle.table.specs.Events.{capacity, event};
+ghost use lib.Dec.{eqb, ltb};
+ghost use Rattle.lists.specs.Lists.{lastOr, before};
+ghost use Rattle.table.specs.Events.{capacity, event, writingKind};
 ghost use Rattle.model.specs.Rules.{initially};
-ghost use Rattle.model.specs.Returns.{visible, returnOf, returnEntry, returns, initialValue, writtenValue, finalValue};
+ghost use Rattle.model.specs.Returns.{returnOf, returnEntry, returns, initialValue, writtenValue, finalValue};
 ghost use Rattle.returns.specs.Writers.{writesTo};
 
 // Event k of the table; past its slots there are blank ones.
@@ -27,13 +29,13 @@ fn event_of(t: Table, k: EventNo) -> Event
     table::no_event()
 }
 
-// w is a writer to reader r's location that precedes r in the order or in program order, never r itself.
-fn visible(t: Table, gmo: &[u8], r: EventNo, w: EventNo) -> bool
-    requires { ⌜ r .0 < capacity ⌝ }
-    ensures { λ s. ⌜ s ≡ visible t (now (gmo .entry)) (r .0) (w .0) ⌝ }
+// w, which is x, is a writer to the location of reader r, which is y, that precedes r in the order or in program order, never r
+// itself.
+fn visible(gmo: &[u8], r: EventNo, y: Event, w: EventNo, x: Event) -> bool
+    ensures { λ s. ⌜ s ≡ (
+        writingKind (x .kind) && eqb (x .location .0) (y .location .0) && not (eqb (w .0) (r .0))
+        && (before (now (gmo .entry)) (w .0) (r .0) || ltb (w .0) (r .0) && eqb (x .hart) (y .hart))) ⌝ }
 {
-    let x = event_of(t, w);
-    let y = t.events[r.0 as usize];
     if table::writes(x) & table::same_location(x, y) & (w.0 != r.0) {
         before(gmo, w, r) | table::program_order(w, x, r, y)
     } else {
@@ -41,16 +43,23 @@ fn visible(t: Table, gmo: &[u8], r: EventNo, w: EventNo) -> bool
     }
 }
 
-// The write that the order makes r return from: the latest in it that r can see.
+// The write that the order makes r return from: the latest in it that r can see. Past the table's slots there are blank events,
+// which nobody sees.
 pub fn return_of(t: Table, gmo: &[u8], r: EventNo) -> u8
     requires { ⌜ r .0 < capacity ⌝ }
     ensures { λ w. ⌜ w ≡ returnOf t (now (gmo .entry)) (r .0) ⌝ }
 {
+    let y = t.events[r.0 as usize];
     let mut latest = INITIALLY;
     let mut i = 0;
     while i < gmo.len() {
-        if visible(t, gmo, r, EventNo(gmo[i])) {
-            latest = gmo[i];
+        let w = gmo[i];
+        if table::CAPACITY <= w as usize {
+            i += 1;
+            continue;
+        }
+        if visible(gmo, r, y, EventNo(w), t.events[w as usize]) {
+            latest = w;
         }
         i += 1;
     }

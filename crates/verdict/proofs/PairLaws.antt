@@ -1,10 +1,14 @@
 -- Laws for nested loops that stop at the lowest pair.
 use Prim.Native.Nat.{ℕ, _+_, _≤_, _<_}
 use mathlib.Core.Path.{_≡_, _∙_}
-use mathlib.Core.Bool.{Bool, true}
+use mathlib.Core.Bool.{Bool, true, false}
+use mathlib.Core.List.{List}
 use native.Mathlib.Omega.{arith}
 use Rattle.lists.specs.Below.{some}
 use Rattle.lists.proofs.ScanLaws.{Scanned, scan-more, scan-hit, scan-end, some-hit, some-end}
+use Rattle.table.specs.declared.Table.{Table}
+use Rattle.model.specs.Rules.{mayOrder, ppo}
+use Rattle.model.specs.Axioms.{breaksPpo}
 use Rattle.verdict.specs.Pairs.{LowestPair}
 
 -- no pair with a lower first number passes
@@ -33,3 +37,8 @@ pairs-end f n a b p k =
       second = λ i. absurd (omega arith);
       within = λ i. absurd (omega arith);
     }
+
+-- a pair that no rule can order is not broken
+pub cannot-break : (t : Table) (rf gmo : List ℕ) (a b : ℕ) → mayOrder t a b ≡ false → breaksPpo t rf gmo a b ≡ false
+unfolding breaksPpo ppo
+cannot-break t rf gmo a b h = rw h

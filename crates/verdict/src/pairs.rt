@@ -1,6 +1,7 @@
 // Preserved order: the lowest pair that the order breaks.
 use edition::EventNo;
 use global_order::before;
+use static_rules::may_order;
 use table::Table;
 ghost use Prim.Native.Nat.{_≤_, _<_};
 ghost use mathlib.Core.Path.{_≡_};
@@ -27,7 +28,7 @@ fn breaks_ppo(t: Table, rf: &[u8], gmo: &[u8], a: EventNo, b: EventNo) -> bool
     }
 }
 
-// "the lowest a, and for that a the lowest b"
+// "the lowest a, and for that a the lowest b". Of a pair that no rule can order no call, which would copy the table.
 pub fn lowest_pair(t: Table, rf: &[u8], gmo: &[u8]) -> Pair
     requires { ⌜ (t .count ≤ capacity) × (length (now rf) ≡ t .count) ⌝ }
     ensures { λ r. ⌜ LowestPair (t .count) (breaksPpo t (now (rf .entry)) (now (gmo .entry))) (r .a) (r .b) ⌝ }
@@ -35,8 +36,13 @@ pub fn lowest_pair(t: Table, rf: &[u8], gmo: &[u8]) -> Pair
     let mut a: u8 = 0;
     let mut b: u8 = 0;
     'pairs: while a < t.count {
+        let x = t.events[a as usize];
         b = 0;
         while b < t.count {
+            if !may_order(EventNo(a), x, EventNo(b), t.events[b as usize]) {
+                b += 1;
+                continue;
+            }
             if breaks_ppo(t, rf, gmo, EventNo(a), EventNo(b)) {
                 break 'pairs;
             }

@@ -76,7 +76,7 @@ loop-again-3 : tie.Need-loop-again-3 Inv-loop μ-loop
 unfolding mayOrder ofEvents
 loop-again-3 c =
     let v = c .before .before .before .before .loop in
-    gather-skip _ _ (v .a) (v .mask) (v .inv) (omega arith) (sym (static-left _ _ _ (sym (c .before .may-order .ensures) ∙ c .if1 .left)))
+    gather-skip _ _ (v .a) (v .mask) (v .inv) (omega arith) (sym (static-left _ _ _ (rw (c .before .may-order .ensures) at (c .if1 .left))))
 
 returns : tie.Need-returns Inv-loop μ-loop
 unfolding predecessorMask

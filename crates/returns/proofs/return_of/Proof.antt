@@ -1,32 +1,40 @@
 use Prim.Native.Nat.{_-_}
 use mathlib.Core.Logic.{⊎-elim}
-use mathlib.Core.Path.{sym, _∙_}
+use mathlib.Core.Path.{_≡_, refl, sym, _∙_}
 use native.Mathlib.Omega.{arith}
-use lib.ListN.{length}
-use Rattle.model.specs.Returns.{visible, returnOf}
+use lib.ListN.{length, length-map}
+use Rattle.table.specs.Events.{event, kind, hart, location, writes, sameLocation, po}
 use Rattle.model.specs.Rules.{initially}
+use Rattle.model.specs.Returns.{visible, returnOf}
 use Rattle.returns.proofs.LastLaws.{LastSoFar, last-hit, last-skip, last-end}
+use Rattle.returns.proofs.ReturnLaws.{past-slots}
 use borrow.Author.Needs.{needs}
 use Rattle.returns.proofs.return_of.Statement.{statement}
 use Rattle.returns.proofs.return_of.Tie as tie
 
 abbrev Inv-loop : tie.InvT-loop
-Inv-loop t gmo r latest₀ i₀ latest i = LastSoFar (visible t gmo (r .0)) initially gmo latest i
+Inv-loop gmo r t y latest₀ i₀ latest i = LastSoFar (visible t gmo (r .0)) initially gmo latest i
 
 abbrev μ-loop : tie.MeasureT-loop
-μ-loop t gmo r latest₀ i₀ latest i = length gmo - i
+μ-loop gmo r t y latest₀ i₀ latest i = length gmo - i
+
+cast-y : tie.Need-cast-y Inv-loop μ-loop
+cast-y c = search needs
+
+mul-y : tie.Need-mul-y Inv-loop μ-loop
+mul-y c = search needs
+
+element-copy-out-y : tie.Need-element-copy-out-y Inv-loop μ-loop
+element-copy-out-y c = search needs
 
 loop-holds : tie.Need-loop-holds Inv-loop μ-loop
-loop-holds c = search needs
+loop-holds c = (omega arith, refl)
 
-shared-slice-read-t10 : tie.Need-shared-slice-read-t10 Inv-loop μ-loop
-shared-slice-read-t10 c = search needs
+shared-slice-read-w : tie.Need-shared-slice-read-w Inv-loop μ-loop
+shared-slice-read-w c = search needs
 
-visible-requires : tie.Need-visible-requires Inv-loop μ-loop
-visible-requires c κs = search needs
-
-shared-slice-read-latest : tie.Need-shared-slice-read-latest Inv-loop μ-loop
-shared-slice-read-latest c = search needs
+cast-if1 : tie.Need-cast-if1 Inv-loop μ-loop
+cast-if1 c = omega (arith, c .shared-slice-known2 .given (c .before .before .loop .i))
 
 add-i : tie.Need-add-i Inv-loop μ-loop
 add-i c = search needs
@@ -36,10 +44,36 @@ loop-less c = search needs
 
 loop-again : tie.Need-loop-again Inv-loop μ-loop
 loop-again c =
-    let v = c .before .before .before .before .loop in (
+    let v = c .before .before .before .loop in
+    let start = c .before .before .before .before .before .before .before in
+    let slots : length (start .args .t1 .events) ≡ 32 = simp length-map at (start .good .0 .1 .1 .1 .1 .1 .1 .1 .0 .1 .0 .1) in
+    (omega arith, v .inv .1 ∙ last-skip _ (v .latest) _ (v .i) (omega arith) refl (past-slots _ _ _ _ (omega arith)))
+
+cast-visible : tie.Need-cast-visible Inv-loop μ-loop
+cast-visible c = search needs
+
+mul-visible : tie.Need-mul-visible Inv-loop μ-loop
+mul-visible c = search needs
+
+element-copy-out-visible : tie.Need-element-copy-out-visible Inv-loop μ-loop
+element-copy-out-visible c = search needs
+
+visible-requires : tie.Need-visible-requires Inv-loop μ-loop
+visible-requires c κs = search needs
+
+add-i-2 : tie.Need-add-i-2 Inv-loop μ-loop
+add-i-2 c = search needs
+
+loop-less-2 : tie.Need-loop-less-2 Inv-loop μ-loop
+loop-less-2 c = search needs
+
+loop-again-2 : tie.Need-loop-again-2 Inv-loop μ-loop
+unfolding visible writes kind sameLocation location po hart event
+loop-again-2 c =
+    let v = c .before .before .before .before .before .before .loop in (
       omega arith,
-      v .inv .1 ∙ ⊎-elim (λ w. rw (w .2) (last-hit _ (v .latest) _ (v .i) (omega arith) (c .before .visible .ensures) (w .0 .taken)))
-          (λ w. rw (w .1) (last-skip _ (v .latest) _ (v .i) (omega arith) (c .before .visible .ensures) (w .0 .left))) (c .if1 .came),
+      v .inv .1 ∙ ⊎-elim (λ w. rw (w .1) (last-hit _ (v .latest) _ (v .i) (omega arith) (c .before .visible .ensures) (w .0 .taken)))
+          (λ w. rw (w .1) (last-skip _ (v .latest) _ (v .i) (omega arith) (c .before .visible .ensures) (w .0 .left))) (c .if2 .came),
     )
 
 returns : tie.Need-returns Inv-loop μ-loop
@@ -54,11 +88,20 @@ return-of-spec =
     (tie.spec
     Inv-loop
     μ-loop
+    cast-y
+    mul-y
+    element-copy-out-y
     loop-holds
-    shared-slice-read-t10
-    visible-requires
-    shared-slice-read-latest
+    shared-slice-read-w
+    cast-if1
     add-i
     loop-less
     loop-again
+    cast-visible
+    mul-visible
+    element-copy-out-visible
+    visible-requires
+    add-i-2
+    loop-less-2
+    loop-again-2
     returns)

@@ -1,32 +1,53 @@
 use Prim.Native.Nat.{_-_}
 use native.Mathlib.Omega.{arith}
+use borrow.Author.Tests.{not-true}
 use Rattle.lists.proofs.ScanLaws.{Scanned, scan-start, scan-more}
+use Rattle.table.proofs.EventTests.{ofEvents}
+use Rattle.model.specs.Rules.{mayOrder}
 use Rattle.model.specs.Axioms.{breaksPpo}
-use Rattle.verdict.proofs.PairLaws.{PairsScanned, pair-hit, row-end, pairs-end}
+use Rattle.verdict.proofs.PairLaws.{PairsScanned, pair-hit, row-end, pairs-end, cannot-break}
 use borrow.Author.Needs.{needs}
 use Rattle.verdict.proofs.pairs.lowest_pair.Statement.{statement}
 use Rattle.verdict.proofs.pairs.lowest_pair.Tie as tie
 
 abbrev Inv-loop : tie.InvT-loop
-Inv-loop t rf gmo a b₀ b = Scanned (breaksPpo t rf gmo a) (t .count) b
+Inv-loop rf gmo t a b₀ x b = Scanned (breaksPpo t rf gmo a) (t .count) b
 
 abbrev μ-loop : tie.MeasureT-loop
-μ-loop t rf gmo a b₀ b = t .count - b
+μ-loop rf gmo t a b₀ x b = t .count - b
 
 abbrev Inv-pairs : tie.InvT-pairs
-Inv-pairs t rf gmo a₀ b₀ a b = PairsScanned (breaksPpo t rf gmo) (t .count) a
+Inv-pairs rf gmo t a₀ b₀ a b = PairsScanned (breaksPpo t rf gmo) (t .count) a
 
 abbrev μ-pairs : tie.MeasureT-pairs
-μ-pairs t rf gmo a₀ b₀ a b = t .count - a
+μ-pairs rf gmo t a₀ b₀ a b = t .count - a
 
 pairs-holds : tie.Need-pairs-holds Inv-loop μ-loop Inv-pairs μ-pairs
 pairs-holds c = scan-start _ _
 
+cast-x : tie.Need-cast-x Inv-loop μ-loop Inv-pairs μ-pairs
+cast-x c = search needs
+
+mul-x : tie.Need-mul-x Inv-loop μ-loop Inv-pairs μ-pairs
+mul-x c = search needs
+
+element-copy-out-x : tie.Need-element-copy-out-x Inv-loop μ-loop Inv-pairs μ-pairs
+element-copy-out-x c = search needs
+
 loop-holds : tie.Need-loop-holds Inv-loop μ-loop Inv-pairs μ-pairs
 loop-holds c = scan-start _ _
 
-breaks-ppo-requires : tie.Need-breaks-ppo-requires Inv-loop μ-loop Inv-pairs μ-pairs
-breaks-ppo-requires c κs = search needs
+cast-may-order : tie.Need-cast-may-order Inv-loop μ-loop Inv-pairs μ-pairs
+cast-may-order c = search needs
+
+mul-may-order : tie.Need-mul-may-order Inv-loop μ-loop Inv-pairs μ-pairs
+mul-may-order c = search needs
+
+element-copy-out-may-order : tie.Need-element-copy-out-may-order Inv-loop μ-loop Inv-pairs μ-pairs
+element-copy-out-may-order c = search needs
+
+may-order-requires : tie.Need-may-order-requires Inv-loop μ-loop Inv-pairs μ-pairs
+may-order-requires c κs = search needs
 
 add-b : tie.Need-add-b Inv-loop μ-loop Inv-pairs μ-pairs
 add-b c = search needs
@@ -35,9 +56,24 @@ loop-less : tie.Need-loop-less Inv-loop μ-loop Inv-pairs μ-pairs
 loop-less c = search needs
 
 loop-again : tie.Need-loop-again Inv-loop μ-loop Inv-pairs μ-pairs
+unfolding mayOrder ofEvents
 loop-again c =
     let v = c .before .before .before .before .loop in
-    scan-more _ _ _ (v .inv) (omega arith) (rw (c .before .breaks-ppo .ensures) at (c .if3 .left))
+    scan-more _ _ _ (v .inv) (omega arith) (cannot-break _ _ _ _ _ (not-true _ (rw (c .before .may-order .ensures) at (c .if1 .taken))))
+
+breaks-ppo-requires : tie.Need-breaks-ppo-requires Inv-loop μ-loop Inv-pairs μ-pairs
+breaks-ppo-requires c κs = search needs
+
+add-b-2 : tie.Need-add-b-2 Inv-loop μ-loop Inv-pairs μ-pairs
+add-b-2 c = search needs
+
+loop-less-2 : tie.Need-loop-less-2 Inv-loop μ-loop Inv-pairs μ-pairs
+loop-less-2 c = search needs
+
+loop-again-2 : tie.Need-loop-again-2 Inv-loop μ-loop Inv-pairs μ-pairs
+loop-again-2 c =
+    let v = c .before .before .before .before .before .before .loop in
+    scan-more _ _ _ (v .inv) (omega arith) (rw (c .before .breaks-ppo .ensures) at (c .if2 .left))
 
 add-a : tie.Need-add-a Inv-loop μ-loop Inv-pairs μ-pairs
 add-a c = search needs
@@ -47,19 +83,19 @@ pairs-less c = search needs
 
 pairs-again : tie.Need-pairs-again Inv-loop μ-loop Inv-pairs μ-pairs
 pairs-again c =
-    let o = c .before .before .before .before .before .pairs in
-    row-end _ _ (o .a) _ (o .inv) (omega arith) (c .before .before .loop .inv) (omega arith)
+    let o = c .before .before .before .before .pairs in
+    row-end _ _ (o .a) _ (o .inv) (omega arith) (c .before .loop .inv) (omega arith)
 
 returns : tie.Need-returns Inv-loop μ-loop Inv-pairs μ-pairs
 returns c =
-    let o = c .before .before .pairs in
+    let o = c .before .pairs in
     pairs-end _ _ (o .a) _ (o .inv) (omega arith)
 
 returns-2 : tie.Need-returns-2 Inv-loop μ-loop Inv-pairs μ-pairs
 returns-2 c =
-    let v = c .before .before .before .before .loop in
-    let o = c .before .before .before .before .before .before .before .pairs in
-    pair-hit _ _ (o .a) _ (o .inv) (omega arith) (v .inv) (omega arith) (rw (c .before .breaks-ppo .ensures) at (c .if3 .taken))
+    let v = c .before .before .before .before .before .before .loop in
+    let o = c .before .before .before .before .before .before .before .before .before .pairs in
+    pair-hit _ _ (o .a) _ (o .inv) (omega arith) (v .inv) (omega arith) (rw (c .before .breaks-ppo .ensures) at (c .if2 .taken))
 
 pub lowest-pair-spec : {M : Type 1} → statement M
 lowest-pair-spec =
@@ -70,11 +106,21 @@ lowest-pair-spec =
     Inv-pairs
     μ-pairs
     pairs-holds
+    cast-x
+    mul-x
+    element-copy-out-x
     loop-holds
-    breaks-ppo-requires
+    cast-may-order
+    mul-may-order
+    element-copy-out-may-order
+    may-order-requires
     add-b
     loop-less
     loop-again
+    breaks-ppo-requires
+    add-b-2
+    loop-less-2
+    loop-again-2
     add-a
     pairs-less
     pairs-again
