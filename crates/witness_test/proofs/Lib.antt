@@ -1,1 +1,3 @@
-pub mod AllowedLaws
+pub mod DeterminedLaws
+pub mod ReaderLaws
+pub mod ReturnedLaws

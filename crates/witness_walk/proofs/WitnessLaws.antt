@@ -18,12 +18,10 @@ use Rattle.witness_walk.specs.Running.{Valued}
 
 module _ {t : Table} (small : Small t) {readers finals : ℕ} {rivals own right writers lasting : List ℕ}
     (facts : Valued t readers rivals own right finals writers lasting) where
-  -- a value differs: no witness
-  pub value-differs : (gmo : List ℕ) → isOrder t gmo ≡ true →
-      (valuesReadBy readers rivals own right gmo && finalValuesBy finals writers lasting gmo) ≡ false → witness t gmo ≡ false
-  unfolding witness
-  value-differs gmo o h =
-      let e =
+  -- the test by masks is that of the values
+  agreed : (gmo : List ℕ) → isOrder t gmo ≡ true →
+      (valuesReadBy readers rivals own right gmo && finalValuesBy finals writers lasting gmo) ≡ (valuesRead t (returns t gmo) && finalValues t gmo)
+  agreed gmo o =
       rw (
         facts .reader-mask,
         facts .rival-masks,
@@ -33,10 +31,20 @@ module _ {t : Table} (small : Small t) {readers finals : ℕ} {rivals own right 
         facts .writer-masks,
         facts .lasting-masks,
       )
-      at h in
+      (values-agree t gmo (omega (arith, small .events)) o (small .locations))
+
+  -- a value differs: no witness
+  pub value-differs : (gmo : List ℕ) → isOrder t gmo ≡ true →
+      (valuesReadBy readers rivals own right gmo && finalValuesBy finals writers lasting gmo) ≡ false → witness t gmo ≡ false
+  unfolding witness
+  value-differs gmo o h =
       and-assoc (lawful t gmo) (valuesRead t (returns t gmo)) (finalValues t gmo)
-      ∙ and-right (lawful t gmo) (valuesRead t (returns t gmo) && finalValues t gmo)
-      (sym (values-agree t gmo (omega (arith, small .events)) o (small .locations)) ∙ e)
+      ∙ and-right (lawful t gmo) (valuesRead t (returns t gmo) && finalValues t gmo) (sym (agreed gmo o) ∙ h)
+
+  -- all agree
+  pub values-met : (gmo : List ℕ) → isOrder t gmo ≡ true →
+      (valuesReadBy readers rivals own right gmo && finalValuesBy finals writers lasting gmo) ≡ true → (valuesRead t (returns t gmo) && finalValues t gmo) ≡ true
+  values-met gmo o h = sym (agreed gmo o) ∙ h
 
   -- the mask of the stated locations has a bit for each location
   pub final-room : finals < 2 ^ maxLocations

@@ -5,16 +5,16 @@ use borrow.Author.Needs.{needs}
 use Rattle.witness_test.proofs.is_witness.Statement.{statement}
 use Rattle.witness_test.proofs.is_witness.Tie as tie
 
-slice-aggregate-is-allowed : tie.Need-slice-aggregate-is-allowed
-slice-aggregate-is-allowed c =
+slice-aggregate-breaks-nothing : tie.Need-slice-aggregate-breaks-nothing
+slice-aggregate-breaks-nothing c =
     let p = c .before .before .pre in
     sym (length-take-le (c .before .before .args .len) (c .before .before .args .order .now) (omega arith))
 
-slice-aggregate-is-allowed-2 : tie.Need-slice-aggregate-is-allowed-2
-slice-aggregate-is-allowed-2 c = search needs
+slice-aggregate-breaks-nothing-2 : tie.Need-slice-aggregate-breaks-nothing-2
+slice-aggregate-breaks-nothing-2 c = search needs
 
-is-allowed-requires : tie.Need-is-allowed-requires
-is-allowed-requires c κs = search needs
+breaks-nothing-requires : tie.Need-breaks-nothing-requires
+breaks-nothing-requires c κs = search needs
 
 returns : tie.Need-returns
 returns c = search needs
@@ -22,4 +22,8 @@ returns c = search needs
 pub is-witness-spec : {M : Type 1} → statement M
 is-witness-spec =
     tie.close
-    (tie.spec slice-aggregate-is-allowed slice-aggregate-is-allowed-2 is-allowed-requires returns)
+    (tie.spec
+    slice-aggregate-breaks-nothing
+    slice-aggregate-breaks-nothing-2
+    breaks-nothing-requires
+    returns)

@@ -6,14 +6,14 @@ use native.Mathlib.Numerals.{add-one}
 use native.Mathlib.Nat.{sub-zero}
 use lib.ListN.{take, set}
 use lib.Count.{ones, ones-le}
-use borrow.Author.Tests.{not-true}
+use borrow.Author.Tests.{not-true, not-false}
 use Rattle.prefixes.specs.Answer.{found, spent}
 use Rattle.model.specs.Witness.{isOrder, witness}
 use Rattle.engine.specs.State.{Moved, NextIs, Holds}
 use Rattle.values.specs.QuickTest.{Listed}
 use Rattle.values.proofs.OrderLaws.{order-listed}
 use Rattle.witness_walk.specs.Running.{searchFrom}
-use Rattle.witness_walk.proofs.WitnessLaws.{value-differs, final-room}
+use Rattle.witness_walk.proofs.WitnessLaws.{value-differs, values-met, final-room}
 use Rattle.witness_walk.proofs.RunLaws.{total-ones, held-clean, held-long, held-short, run-none, run-spent, run-found, run-on, whole-is-order, part-is-none, ran-as}
 use borrow.Author.Needs.{needs}
 use Rattle.witness_walk.proofs.walk.Statement.{statement}
@@ -170,7 +170,13 @@ is-witness-requires c κs =
     let e = c .before .before .before .before .before in
     let s = e .before .before .before .before .before .before .before in
     let m = moved (e .before .before) in
-    (s .pre .0 .0 .small, m .holds .long, omega (arith, m .room), whole e (c .before .before .before .before .if2 .left))
+    let order = whole e (c .before .before .before .before .if2 .left) in (
+      (s .pre .0 .0 .small, m .holds .long, omega (arith, m .room)),
+      (
+        (order, held-clean (s .pre .0 .0) (m .holds)),
+        values-met (s .pre .0 .0 .small) (s .pre .1) _ order (sym (c .before .before .agree .ensures) ∙ not-false _ (c .before .if3 .left)),
+      ),
+    )
 
 found-requires : tie.Need-found-requires Inv-loop μ-loop
 found-requires c κs = search needs
