@@ -26,7 +26,11 @@ memory_serves() {
     return "$status"
 }
 
-# A check writes and removes over a thousand small files: some tenth of its time, unless they are kept in memory.
+# A check writes and removes over a thousand small files: some tenth of its time, unless they are kept in memory. The programs
+# that rt runs as nobody reach their own folder below this one.
 if [ -z "${TMPDIR:-}" ] && memory_serves; then
-    export TMPDIR=$memory
+    TMPDIR=$(mktemp -d -p "$memory")
+    export TMPDIR
+    chmod 711 "$TMPDIR"
+    trap 'rm -rf "$TMPDIR"' EXIT
 fi

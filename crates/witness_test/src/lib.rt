@@ -36,7 +36,7 @@ fn breaks_returned(t: Table, rf: &[u8], gmo: &[u8], a: EventNo, b: EventNo) -> b
     }
 }
 
-// These rules order readers only: of another b no call, which would copy the table.
+// Some b breaks one of these rules with a. They order readers only: of another b no call, which would copy the table.
 fn some_broken_after(t: Table, rf: &[u8], gmo: &[u8], a: EventNo) -> bool
     requires { ⌜ (a .0 < t .count) × (t .count ≤ capacity) × (length (now rf) ≡ t .count) ⌝ }
     ensures { λ r. ⌜ r ≡ some (t .count) (breaksReturned t (now (rf .entry)) (now (gmo .entry)) (a .0)) ⌝ }
@@ -57,6 +57,7 @@ fn some_broken_after(t: Table, rf: &[u8], gmo: &[u8], a: EventNo) -> bool
     false
 }
 
+// Some pair breaks one of them.
 fn some_broken(t: Table, rf: &[u8], gmo: &[u8]) -> bool
     requires { ⌜ (t .count ≤ capacity) × (length (now rf) ≡ t .count) ⌝ }
     ensures { λ r. ⌜ r ≡ some (t .count) (λ a. some (t .count) (breaksReturned t (now (rf .entry)) (now (gmo .entry)) a)) ⌝ }
