@@ -1,12 +1,12 @@
 # Settings that make rt's checks quicker; the scripts that call rt source this. What is set already stays.
 
-job_kib=1500000
+job_bytes=1500000000
 
 # More jobs than cores, as far as memory goes: rt starts some at once and waits for all of them before it starts the next.
 most_jobs() {
     local jobs=$((4 * $(nproc))) room
-    room=$(awk -v job="$job_kib" '/^MemAvailable:/ { print int($2 / job) }' /proc/meminfo)
-    if [ "${room:-1}" -lt 1 ]; then room=1; fi
+    room=$(($(getconf _PHYS_PAGES) * $(getconf PAGE_SIZE) / job_bytes))
+    if [ "$room" -lt 1 ]; then room=1; fi
     echo $((room < jobs ? room : jobs))
 }
 
