@@ -163,7 +163,7 @@ loop-again-2 : tie.Need-loop-again-2 Inv-loop μ-loop
 loop-again-2 c =
     let e = c .before .before .before .before in
     let s = e .before .before .before .before .before .before .before in
-    onward e (value-differs (s .pre .0 .0 .small) (s .pre .1) _ (whole e (c .before .before .before .if2 .left)) (sym (c .before .agree .ensures) ∙ not-true _ (c .if3 .taken)))
+    onward e (value-differs (s .pre .0 .0 .small) (s .pre .1) _ (whole e (c .before .before .before .if2 .left)) (not-true _ (rw (c .before .agree .ensures) at (c .if3 .taken))))
 
 is-witness-requires : tie.Need-is-witness-requires Inv-loop μ-loop
 is-witness-requires c κs =
@@ -174,7 +174,7 @@ is-witness-requires c κs =
       (s .pre .0 .0 .small, m .holds .long, omega (arith, m .room)),
       (
         (order, held-clean (s .pre .0 .0) (m .holds)),
-        values-met (s .pre .0 .0 .small) (s .pre .1) _ order (sym (c .before .before .agree .ensures) ∙ not-false _ (c .before .if3 .left)),
+        values-met (s .pre .0 .0 .small) (s .pre .1) _ order (not-false _ (rw (c .before .before .agree .ensures) at (c .before .if3 .left))),
       ),
     )
 
