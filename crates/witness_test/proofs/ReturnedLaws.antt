@@ -3,9 +3,8 @@ use Prim.Native.Nat.{ℕ, _<_}
 use mathlib.Core.Path.{_≡_, refl, sym, ap, _∙_}
 use mathlib.Core.Bool.{Bool, true, false, not, _&&_, _||_, true≢false}
 use mathlib.Core.List.{List, [], _∷_}
-use native.Mathlib.Omega.{arith}
 use lib.Dec.{eqb, ltb}
-use borrow.Author.Tests.{lt-ltb, eqb-true}
+use borrow.Author.Tests.{eqb-true}
 use Rattle.lists.specs.Below.{some, below, lowest}
 use Rattle.lists.specs.Lists.{all, any, has, count, before}
 use Rattle.lists.proofs.BoolLaws.{and-l, and-r, and-right}
@@ -20,6 +19,7 @@ use Rattle.model.specs.Axioms.{breaksPpo, preservedOrder, loadValue, atomicity,
 use Rattle.model.specs.Witness.{isMemoryEvent, isOrder, lawful, witness}
 use Rattle.model.specs.Prefixes.{isPrefix, predecessorsListed, clean}
 use Rattle.model.proofs.VerdictLaws.{returns-load-value}
+use Rattle.precedence.proofs.EntryLaws.{counted-has}
 use Rattle.witness_test.specs.ReturnedRules.{returnedPpo, breaksReturned}
 
 -- where no steady rule holds, the other three are left of the thirteen
@@ -43,15 +43,6 @@ three-left false true r3 false false false false false false false false r12 fal
 three-left false false true false false false false false false false false r12 false h = refl
 three-left false false false false false false false false false false false true false h = refl
 three-left false false false false false false false false false false false false false h = refl
-
--- an entry that is counted is there
-counted-has : (e : ℕ) (l : List ℕ) → count e l ≡ 1 → has e l ≡ true
-counted-has e [] h = absurd (omega (arith, h))
-counted-has e (x ∷ l) h = go (eqb e x) refl (counted-has e l)
-  where
-    go : (b : Bool) → eqb e x ≡ b → (count e l ≡ 1 → has e l ≡ true) → (eqb e x || has e l) ≡ true
-    go true q later = rw q
-    go false q later = rw q (later (omega (arith, rw q at h)))
 
 module _ (t : Table) (gmo : List ℕ) (o : isOrder t gmo ≡ true) (c : clean t gmo ≡ true) where
   -- the order has each memory event
