@@ -7,15 +7,12 @@ use verdict::Verdict;
 use witness_walk::Outcome;
 ghost use Prim.Native.Nat.{_^_, _<_};
 ghost use mathlib.Core.Path.{_≡_};
-ghost use lib.ListN.{length, take};
 ghost use Rattle.refusals.specs.Refusals.{refusalOf};
 ghost use Rattle.rule_sets.specs.RuleMask.{rulesIn};
 ghost use Rattle.verdict.specs.Judged.{axiomOf, judgedOf};
 ghost use Rattle.pair_rules.specs.PairRules.{ruledOf};
-ghost use Rattle.witness_walk.specs.Outcome.{outcomeOf};
-ghost use Rattle.search.specs.Replies.{replyOf};
-ghost use Rattle.answer_word.specs.Words.{word, refusalWord, rulesMask, lowestOf, verdictWord, judgedWord, ruledWord, answerWord, replyWord};
-ghost use Rattle.answer_word.specs.Fits.{AnswerFits, ReplyFits};
+ghost use Rattle.answer_word.specs.Words.{word, refusalWord, rulesMask, lowestOf, verdictWord, judgedWord, ruledWord};
+ghost use Rattle.answer_word.specs.Given.{outcomeWord, givenWord, OutcomeFits, GivenFits};
 
 // The case of an answer: byte 0 of its word.
 struct Case;
@@ -126,30 +123,23 @@ pub fn pair_word(pair: PairRules) -> u64
     }
 }
 
-// How many of the first len bytes there are: an outcome does not say that its len is within the buffer.
-fn front(out: &[u8], len: usize) -> usize
-    ensures { λ r. ⌜ r ≡ length (take len (now (out .entry))) ⌝ }
-{
-    if len < out.len() { len } else { out.len() }
-}
-
-fn outcome_word(outcome: Outcome, out: &[u8]) -> u64
-    requires { ⌜ AnswerFits (outcomeOf outcome (now out)) ⌝ }
-    ensures { λ r. ⌜ r ≡ answerWord (outcomeOf outcome (now (out .entry))) ⌝ }
+fn outcome_word(outcome: Outcome) -> u64
+    requires { ⌜ OutcomeFits outcome ⌝ }
+    ensures { λ r. ⌜ r ≡ outcomeWord outcome ⌝ }
 {
     match outcome {
-        Outcome::Found { len, visited } => word(Case::FOUND, front(out, len) as u8, 0, 0, visited),
+        Outcome::Found { len, visited } => word(Case::FOUND, len as u8, 0, 0, visited),
         Outcome::NoneLeft { visited } => word(Case::NONE_LEFT, 0, 0, 0, visited),
-        Outcome::Spent { len, visited } => word(Case::SPENT, front(out, len) as u8, 0, 0, visited),
+        Outcome::Spent { len, visited } => word(Case::SPENT, len as u8, 0, 0, visited),
     }
 }
 
-pub fn reply_word(reply: Reply, out: &[u8]) -> u64
-    requires { ⌜ ReplyFits (replyOf reply (now out)) ⌝ }
-    ensures { λ r. ⌜ r ≡ replyWord (replyOf reply (now (out .entry))) ⌝ }
+pub fn reply_word(reply: Reply) -> u64
+    requires { ⌜ GivenFits reply ⌝ }
+    ensures { λ r. ⌜ r ≡ givenWord reply ⌝ }
 {
     match reply {
         Reply::Refused(refusal) => refusal_word(refusal),
-        Reply::Answered(outcome) => outcome_word(outcome, out),
+        Reply::Answered(outcome) => outcome_word(outcome),
     }
 }

@@ -18,7 +18,7 @@ use Rattle.model.specs.Returns.{returns}
 use Rattle.model.specs.Verdict.{verdict}
 use Rattle.model.specs.Prefixes.{search}
 use Rattle.candidate.specs.Buffers.{writtenUnless}
-use Rattle.search.specs.Replies.{startLines, answeredUnless, tableReply, bufferAfter}
+use Rattle.search.specs.Replies.{startLines, answeredUnless, tableReply, bufferAfter, prefixLength}
 use Rattle.verdict.specs.Judged.{Judged, declined, judged}
 use Rattle.answers.specs.Candidate.{candidateLines, judgedUnless, orderLines}
 use Rattle.pair_rules.specs.PairRules as pair
@@ -108,9 +108,9 @@ module _ (s gmo out : List ℕ) where
 -- The search entry.
 module _ (s start out : List ℕ) (b : ℕ) where
   pub search-declined : (q : Refused) → q ≡ readRefusal s → q ≢ accepted →
-      (refused q ≡ searchReply s start out b) × (out ≡ searchBuffer s start out b)
+      (refused q ≡ searchReply s start out b) × ((out ≡ searchBuffer s start out b) × (0 ≡ prefixLength (searchReply s start out b)))
   unfolding searchBuffer searchReply searchRefusal searchLines
-  search-declined q e n = (reply, ap (λ (r : Reply Refused). bufferAfter r out) reply)
+  search-declined q e n = (reply, (ap (λ (r : Reply Refused). bufferAfter r out) reply, ap prefixLength reply))
     where
       same : (r : Refused) → r ≢ accepted → refused r ≡ answeredUnless r (search (decoded s) start b)
       same accepted k = absurd (k refl)
@@ -120,18 +120,17 @@ module _ (s start out : List ℕ) (b : ℕ) where
       reply : refused q ≡ answeredUnless (firstLine (decoded s .count) (readingLines s ++ startLines (decoded s) start out b)) (search (decoded s) start b)
       reply = same q n ∙ ap (λ (r : Refused). answeredUnless r (search (decoded s) start b)) (e ∙ sym (reading-refuses s _ (λ h. n (e ∙ h))))
 
-  pub search-answered : (t : Table) (r : Reply Refused) (after : List ℕ) → readRefusal s ≡ accepted → t ≡ decoded s →
-      (r ≡ tableReply t start out b) × (after ≡ bufferAfter (tableReply t start out b) out) →
-      (r ≡ searchReply s start out b) × (after ≡ searchBuffer s start out b)
+  pub search-answered : (t : Table) (r : Reply Refused) (after : List ℕ) (len : ℕ) → readRefusal s ≡ accepted → t ≡ decoded s →
+      (r ≡ tableReply t start out b) × ((after ≡ bufferAfter (tableReply t start out b) out) × (len ≡ prefixLength (tableReply t start out b))) →
+      (r ≡ searchReply s start out b) × ((after ≡ searchBuffer s start out b) × (len ≡ prefixLength (searchReply s start out b)))
   unfolding searchBuffer searchReply searchRefusal searchLines tableReply
-  search-answered t r after ok e h = (g .0 ∙ own, g .1 ∙ ap (λ (q : Reply Refused). bufferAfter q out) own)
+  search-answered t r after len ok e h = (h .0 ∙ same, (h .1 .0 ∙ ap (λ (q : Reply Refused). bufferAfter q out) same, h .1 .1 ∙ ap prefixLength same))
     where
-      g : (r ≡ tableReply (decoded s) start out b) × (after ≡ bufferAfter (tableReply (decoded s) start out b) out)
-      g = subst (λ (x : Table). (r ≡ tableReply x start out b) × (after ≡ bufferAfter (tableReply x start out b) out)) e h
-
-      own : answeredUnless (firstLine (decoded s .count) (startLines (decoded s) start out b)) (search (decoded s) start b)
-          ≡ answeredUnless (firstLine (decoded s .count) (readingLines s ++ startLines (decoded s) start out b)) (search (decoded s) start b)
+      own : tableReply (decoded s) start out b ≡ searchReply s start out b
       own = ap (λ (q : Refused). answeredUnless q (search (decoded s) start b)) (sym (own-lines s ok (startLines (decoded s) start out b)))
+
+      same : tableReply t start out b ≡ searchReply s start out b
+      same = ap (λ (x : Table). tableReply x start out b) e ∙ own
 
 -- The entry for the rules of a pair.
 module _ (s rf : List ℕ) (a b : ℕ) where

@@ -12,7 +12,7 @@ ghost use Rattle.writer.specs.Writing.{writeRefusal, writtenBlock};
 ghost use Rattle.suite_part.specs.Part.{blockOf, blockCount};
 ghost use Rattle.verdict.specs.Judged.{judgedOf};
 ghost use Rattle.pair_rules.specs.PairRules.{ruledOf};
-ghost use Rattle.search.specs.Replies.{replyOf};
+ghost use Rattle.search.specs.Replies.{replyOf, lengthOf, prefixLength};
 ghost use Rattle.bench.specs.Candidate.{verdictOf, returnsRefusal, returnsBuffer};
 ghost use Rattle.bench.specs.PairRules.{rulesOf};
 ghost use Rattle.bench.specs.Search.{searchReply, searchBuffer};
@@ -93,6 +93,7 @@ pub fn returns(bytes: &[u8], order: &[u8], out: &mut [u8]) -> Refusal
 pub fn search(bytes: &[u8], start: &[u8], out: &mut [u8], allowance: u64) -> Reply
     ensures { λ r. ⌜ replyOf r (now (out .exit)) ≡ searchReply (now (bytes .entry)) (now (start .entry)) (now (out .entry)) allowance ⌝ }
     ensures { λ r. ⌜ now (out .exit) ≡ searchBuffer (now (bytes .entry)) (now (start .entry)) (now (out .entry)) allowance ⌝ }
+    ensures { λ r. ⌜ lengthOf r ≡ prefixLength (searchReply (now (bytes .entry)) (now (start .entry)) (now (out .entry)) allowance) ⌝ }
 {
     let reading = block::read(bytes);
     let refusal = reading.refusal;

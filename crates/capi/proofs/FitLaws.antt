@@ -1,6 +1,6 @@
 -- The reply to a search call fits a word: it visits at most the allowance, and a clean prefix has at most the memory events.
 use Prim.Native.Nat.{ℕ, zero, suc, _+_, _^_, _≤_, _<_}
-use mathlib.Core.Path.{_≡_, refl, sym, subst, _∙_}
+use mathlib.Core.Path.{_≡_, refl, sym, ap, subst, _∙_}
 use mathlib.Core.Bool.{Bool, true, false, not}
 use mathlib.Core.List.{List, [], _∷_, cons-ne-nil, List·Memᴰ·head, List·Memᴰ·tail}
 use native.Mathlib.Omega.{arith}
@@ -17,7 +17,8 @@ use Rattle.refusals.proofs.LineLaws.{whole-off}
 use Rattle.refusals.proofs.PassedLaws.{passed-both}
 use Rattle.block.specs.Reading.{readingLines, readRefusal}
 use Rattle.prefixes.specs.Listed.{after}
-use Rattle.prefixes.specs.Answer.{Answer, found, answer, pick}
+use Rattle.prefixes.specs.Answer.{Answer, found, noneLeft, spent, answer, pick}
+use Rattle.prefixes.specs.Walk.{Reply, refused, answered}
 use Rattle.prefixes.specs.Statements.{seek}
 use Rattle.prefixes.proofs.AnswerLaws.{seek-answer}
 use Rattle.prefixes.proofs.ListedLaws.{listed-only}
@@ -26,11 +27,25 @@ use Rattle.model.specs.Prefixes.{clean, cleanPrefixes, search}
 use Rattle.model.proofs.PrefixLaws.{clean-listed}
 use Rattle.candidate.specs.CandidateLines.{startWrong}
 use Rattle.precedence.specs.Counts.{Small}
-use Rattle.search.specs.Replies.{maxAllowance, startLines, answeredUnless}
+use Rattle.search.specs.Replies.{maxAllowance, startLines, answeredUnless, replyOf, lengthOf, prefixLength}
 use Rattle.search.proofs.CallLaws.{count-small}
-use Rattle.bench.specs.Search.{searchLines, searchRefusal, searchReply}
+use Rattle.bench.specs.Search.{searchLines, searchRefusal, searchReply, searchBuffer}
 use Rattle.bench.proofs.EntryLaws.{small-read}
-use Rattle.answer_word.specs.Fits.{AnswerFits, ReplyFits}
+use Rattle.witness_walk.specs.declared.Outcome.the-variants.{Found, NoneLeft, Spent}
+use Rattle.search.specs.declared.Reply as code
+use Rattle.search.specs.declared.Reply.the-variants.{Refused as Declined, Answered}
+use Rattle.answer_word.specs.Words.{word, replyWord}
+use Rattle.answer_word.specs.Given.{givenWord, GivenFits}
+
+-- what has room in a word, of an answer and of a reply
+abbrev AnswerFits : Answer → Type 0
+AnswerFits (found p v) = (length p < 256) × (v < 2 ^ 32)
+AnswerFits (noneLeft v) = v < 2 ^ 32
+AnswerFits (spent p v) = (length p < 256) × (v < 2 ^ 32)
+
+abbrev ReplyFits : Reply Refused → Type 0
+ReplyFits (refused r) = Unit {0}
+ReplyFits (answered a) = AnswerFits a
 
 -- along any list of short prefixes, from a short start
 seek-fits : (goal : List ℕ → Bool) (l : List (List ℕ)) (s : List ℕ) (b n : ℕ) → length s < 256 → ((p : List ℕ) → p ∈ l → length p < 256) →
@@ -69,7 +84,7 @@ module _ (t : Table) (small : Small t) where
       (λ p m. listed-short p (keep-only (less s) (cleanPrefixes t) p m .0)) (omega arith))
 
 -- the reply of any bytes
-pub reply-fits : (s start out : List ℕ) (b : ℕ) → ReplyFits (searchReply s start out b)
+reply-fits : (s start out : List ℕ) (b : ℕ) → ReplyFits (searchReply s start out b)
 unfolding searchReply searchRefusal searchLines readRefusal startLines startWrong
 reply-fits s start out b = go (searchRefusal s start out b) refl
   where
@@ -82,3 +97,34 @@ reply-fits s start out b = go (searchRefusal s start out b) refl
         search-fits (decoded s) (small-read s (both .0)) start b (not-false _ (room .0)) (ltb-false _ _ (few .0))
     go (byLine n) h = tt
     go (byRecord n k) h = tt
+
+-- of the code's reply, whose length is that of its prefix
+module _ (out : List ℕ) where
+  fits-given : (r : code.Reply) → lengthOf r ≡ prefixLength (replyOf r out) → ReplyFits (replyOf r out) → GivenFits r
+  fits-given (Declined q) e f = tt
+  fits-given (Answered (Found len v)) e f = (omega (arith, e, f .0), f .1)
+  fits-given (Answered (NoneLeft v)) e f = f
+  fits-given (Answered (Spent len v)) e f = (omega (arith, e, f .0), f .1)
+
+  word-given : (r : code.Reply) → lengthOf r ≡ prefixLength (replyOf r out) → givenWord r ≡ replyWord (replyOf r out)
+  word-given (Declined q) e = refl
+  word-given (Answered (Found len v)) e = ap (λ (n : ℕ). word 7 n 0 0 v) e
+  word-given (Answered (NoneLeft v)) e = refl
+  word-given (Answered (Spent len v)) e = ap (λ (n : ℕ). word 9 n 0 0 v) e
+
+-- what the search entry promises of its reply r and of the buffer afterwards
+abbrev Promised : (s start out : List ℕ) (b : ℕ) → code.Reply → List ℕ → Type 0
+Promised s start out b r after =
+    (replyOf r after ≡ searchReply s start out b) × ((after ≡ searchBuffer s start out b) × (lengthOf r ≡ prefixLength (searchReply s start out b)))
+
+module _ (s start out : List ℕ) (b : ℕ) (after : List ℕ) (r : code.Reply) (h : Promised s start out b r after) where
+  counts : lengthOf r ≡ prefixLength (replyOf r after)
+  counts = h .1 .1 ∙ ap prefixLength (sym (h .0))
+
+  -- the reply has room in a word
+  pub given-fits : GivenFits r
+  given-fits = fits-given after r counts (subst ReplyFits (sym (h .0)) (reply-fits s start out b))
+
+  -- and its word is that of the definition's reply
+  pub given-word : givenWord r ≡ replyWord (searchReply s start out b)
+  given-word = word-given after r counts ∙ ap replyWord (h .0)

@@ -68,8 +68,7 @@ pub extern "C" fn ct_search(block: &[u8], start: &[u8], out: &mut [u8], allowanc
     ensures { λ r. ⌜ r ≡ replyWord (searchReply (now (block .entry)) (now (start .entry)) (now (out .entry)) allowance) ⌝ }
     ensures { λ r. ⌜ now (out .exit) ≡ searchBuffer (now (block .entry)) (now (start .entry)) (now (out .entry)) allowance ⌝ }
 {
-    let reply = bench::search(block, start, out, allowance);
-    answer_word::reply_word(reply, &*out)
+    answer_word::reply_word(bench::search(block, start, out, allowance))
 }
 
 // How many blocks a suite has; a last part block counts.

@@ -30,7 +30,7 @@ use Rattle.witness_walk.specs.declared.Outcome.the-variants.{Found, NoneLeft, S
 use Rattle.witness_walk.specs.Outcome.{outcomeOf}
 use Rattle.precedence.specs.Counts.{Small}
 use Rattle.witness_walk.specs.Running.{Masked, AtMost, searchFrom, Ran}
-use Rattle.search.specs.Replies.{outcomeBuffer, maxAllowance, startLines, answeredUnless, tableReply, bufferAfter}
+use Rattle.search.specs.Replies.{maxAllowance, startLines, answeredUnless, tableReply, bufferAfter, prefixLength}
 
 -- a bound on a prefix's entries may be raised
 pub at-most : (o : Outcome) (m n : ℕ) → m ≤ n → AtMost m o → AtMost n o
@@ -42,44 +42,41 @@ at-most (Spent len v) m n h a = omega arith
 pub ran-from : {t : Table} {p q : List ℕ} {b : ℕ} {o : Outcome} {order : List ℕ} → p ≡ q → Ran t p b o order → Ran t q b o order
 ran-from {t} {b = b} {o = o} {order = order} e r = subst (λ (l : List ℕ). Ran t l b o order) e r
 
--- a prefix handed out stands at the buffer's front, and the bytes past it stay
-front : (len : ℕ) (order out : List ℕ) → len ≤ length order →
-    (take len (take len order ++ drop len out) ≡ take len order) × (take len order ++ drop len out ≡ written (take len order) out)
-front len order out h =
-    let e : length (take len order) ≡ len = length-take-le len order h in
-    (take-at (take len order) (drop len out) len e, ap (λ (n : ℕ). take len order ++ drop n out) (sym e))
-
-delivered : (o : Outcome) (order out : List ℕ) → AtMost (length order) o →
-    (outcomeOf o (outcomeBuffer o order out) ≡ outcomeOf o order) × (outcomeBuffer o order out ≡ bufferAfter (answered (outcomeOf o order)) out)
-delivered (Found len v) order out a = let f = front len order out a in (ap (λ (p : List ℕ). found p v) (f .0), f .1)
-delivered (NoneLeft v) order out a = (refl, refl)
-delivered (Spent len v) order out a = let f = front len order out a in (ap (λ (p : List ℕ). spent p v) (f .0), f .1)
+-- a prefix copied to the buffer's front: it stands there, the bytes past it stay, and its length is the one said
+pub copied : (say : List ℕ → Answer) (len : ℕ) (order out after : List ℕ) → len ≤ length order → after ≡ take len order ++ drop len out →
+    (_≡_ {A = Reply Refused} (answered (say (take len after))) (answered (say (take len order))))
+    × ((after ≡ written (take len order) out) × (len ≡ length (take len order)))
+copied say len order out after h w = (
+  ap {B = Reply Refused} (λ (p : List ℕ). answered (say p)) (ap (take len) w ∙ take-at (take len order) (drop len out) len e),
+  (w ∙ ap (λ (n : ℕ). take len order ++ drop n out) (sym e), sym e),
+)
+  where
+    e : length (take len order) ≡ len
+    e = length-take-le len order h
 
 module _ (t : Table) (start out : List ℕ) (b : ℕ) where
   -- a line refuses: nothing is written
   pub call-refused : (n : ℕ) → byLine n ≡ firstLine (t .count) (startLines t start out b) →
-      (refused (byLine n) ≡ tableReply t start out b) × (out ≡ bufferAfter (tableReply t start out b) out)
+      (refused (byLine n) ≡ tableReply t start out b)
+      × ((out ≡ bufferAfter (tableReply t start out b) out) × (0 ≡ prefixLength (tableReply t start out b)))
   unfolding tableReply
   call-refused n e =
       let r = ap (λ (q : Refused). answeredUnless q (search t start b)) e in
-      (r, ap (λ (q : Reply Refused). bufferAfter q out) r)
+      (r, (ap (λ (q : Reply Refused). bufferAfter q out) r, ap prefixLength r))
 
   -- no line refuses: the outcome is the search's answer
-  pub call-answered : (o : Outcome) (order after : List ℕ) → accepted ≡ firstLine (t .count) (startLines t start out b) →
-      Ran t start b o order → AtMost slots o → after ≡ outcomeBuffer o order out →
-      (answered (outcomeOf o after) ≡ tableReply t start out b) × (after ≡ bufferAfter (tableReply t start out b) out)
+  pub answer-is : (o : Outcome) (order : List ℕ) → accepted ≡ firstLine (t .count) (startLines t start out b) → Ran t start b o order →
+      answered (outcomeOf o order) ≡ tableReply t start out b
   unfolding tableReply search
-  call-answered o order after e ran short w = (reply, w ∙ d .1 ∙ ap (λ (q : Reply Refused). bufferAfter q out) whole)
-    where
-      d : (outcomeOf o (outcomeBuffer o order out) ≡ outcomeOf o order) × (outcomeBuffer o order out ≡ bufferAfter (answered (outcomeOf o order)) out)
-      d = delivered o order out (subst (λ (n : ℕ). AtMost n o) (sym (ran .long)) short)
+  answer-is o order e ran =
+      ap answered (ran .answer ∙ sym (seek-answer (witness t) _ start b)) ∙ ap (λ (q : Refused). answeredUnless q (search t start b)) e
 
-      whole : answered (outcomeOf o order) ≡ answeredUnless (firstLine (t .count) (startLines t start out b)) (search t start b)
-      whole =
-          ap answered (ran .answer ∙ sym (seek-answer (witness t) _ start b)) ∙ ap (λ (q : Refused). answeredUnless q (search t start b)) e
-
-      reply : answered (outcomeOf o after) ≡ answeredUnless (firstLine (t .count) (startLines t start out b)) (search t start b)
-      reply = ap (λ (l : List ℕ). answered (outcomeOf o l)) w ∙ ap answered (d .0) ∙ whole
+  pub call-answered : (a r : Reply Refused) (len : ℕ) (after : List ℕ) → a ≡ tableReply t start out b →
+      (r ≡ a) × ((after ≡ bufferAfter a out) × (len ≡ prefixLength a)) →
+      (r ≡ tableReply t start out b)
+      × ((after ≡ bufferAfter (tableReply t start out b) out) × (len ≡ prefixLength (tableReply t start out b)))
+  call-answered a r len after e h =
+      (h .0 ∙ e, (h .1 .0 ∙ ap (λ (q : Reply Refused). bufferAfter q out) e, h .1 .1 ∙ ap prefixLength e))
 
   -- the lines, told one by one
   pub start-refused : clean t start ≡ false → byLine 15 ≡ firstLine (t .count) (startLines t start out b)

@@ -1,7 +1,7 @@
 -- A search call on a table: refusals 15, 16 and 17, the reply, and what it leaves in the answer buffer.
 use Prim.Native.Nat.{ℕ}
-use mathlib.Core.List.{List, [], _∷_, _++_}
-use lib.ListN.{take, drop}
+use mathlib.Core.List.{List, [], _∷_}
+use lib.ListN.{length}
 use lib.Dec.{ltb}
 use Rattle.table.specs.declared.Table.{Table}
 use Rattle.refusals.specs.Lines.{Refused, accepted, byLine, byRecord, Line, whole, firstLine}
@@ -47,8 +47,16 @@ abbrev pub replyOf : Reply → List ℕ → walk.Reply Refused
 replyOf (Declined r) out = walk.refused (refusalOf r)
 replyOf (Answered o) out = walk.answered (outcomeOf o out)
 
--- the buffer once an outcome's prefix, at the front of the order, is handed out
-abbrev pub outcomeBuffer : Outcome → List ℕ → List ℕ → List ℕ
-outcomeBuffer (Found len visited) order out = take len order ++ drop len out
-outcomeBuffer (NoneLeft visited) order out = out
-outcomeBuffer (Spent len visited) order out = take len order ++ drop len out
+-- the length of the prefix that a reply hands out, which "is part of the answer"; 0 where none is
+abbrev pub prefixLength : walk.Reply Refused → ℕ
+prefixLength (walk.refused r) = 0
+prefixLength (walk.answered (found p v)) = length p
+prefixLength (walk.answered (noneLeft v)) = 0
+prefixLength (walk.answered (spent p v)) = length p
+
+-- the length that the code's reply says
+abbrev pub lengthOf : Reply → ℕ
+lengthOf (Declined r) = 0
+lengthOf (Answered (Found len v)) = len
+lengthOf (Answered (NoneLeft v)) = 0
+lengthOf (Answered (Spent len v)) = len

@@ -10,9 +10,11 @@ ghost use mathlib.Core.List.{_++_};
 ghost use mathlib.Core.Path.{_≡_};
 ghost use lib.ListN.{length, take, drop};
 ghost use Rattle.successors.specs.CleanMasks.{slots};
+ghost use Rattle.prefixes.specs.Walk.{answered};
 ghost use Rattle.precedence.specs.Counts.{Small};
+ghost use Rattle.witness_walk.specs.Outcome.{outcomeOf};
 ghost use Rattle.witness_walk.specs.Running.{AtMost};
-ghost use Rattle.search.specs.Replies.{outcomeBuffer, tableReply, bufferAfter, replyOf};
+ghost use Rattle.search.specs.Replies.{tableReply, bufferAfter, replyOf, lengthOf, prefixLength};
 
 // A reply to a search call; the prefix of Found and Spent stands at the front of the answer buffer.
 pub enum Reply {
@@ -36,14 +38,22 @@ fn copy(order: &[u8; SLOTS], len: usize, out: &mut [u8])
 }
 
 // Hands out the prefix of an outcome; "none left" writes nothing.
-fn deliver(outcome: Outcome, order: &[u8; SLOTS], out: &mut [u8])
+fn deliver(outcome: Outcome, order: &[u8; SLOTS], out: &mut [u8]) -> Reply
     requires { ⌜ (length (now order) ≡ slots) × AtMost slots outcome × AtMost (length (now out)) outcome ⌝ }
-    ensures { λ _. ⌜ now (out .exit) ≡ outcomeBuffer outcome (now (order .entry)) (now (out .entry)) ⌝ }
+    ensures { λ r. ⌜ replyOf r (now (out .exit)) ≡ answered (outcomeOf outcome (now (order .entry))) ⌝ }
+    ensures { λ r. ⌜ now (out .exit) ≡ bufferAfter (answered (outcomeOf outcome (now (order .entry)))) (now (out .entry)) ⌝ }
+    ensures { λ r. ⌜ lengthOf r ≡ prefixLength (answered (outcomeOf outcome (now (order .entry)))) ⌝ }
 {
     match outcome {
-        Outcome::Found { len, visited: _ } => copy(order, len, out),
-        Outcome::NoneLeft { visited: _ } => {}
-        Outcome::Spent { len, visited: _ } => copy(order, len, out),
+        Outcome::Found { len, visited } => {
+            copy(order, len, out);
+            Reply::Answered(Outcome::Found { len, visited })
+        }
+        Outcome::NoneLeft { visited } => Reply::Answered(Outcome::NoneLeft { visited }),
+        Outcome::Spent { len, visited } => {
+            copy(order, len, out);
+            Reply::Answered(Outcome::Spent { len, visited })
+        }
     }
 }
 
@@ -52,6 +62,7 @@ pub fn search(t: Table, start: &[u8], out: &mut [u8], allowance: u64) -> Reply
     requires { ⌜ Small t ⌝ }
     ensures { λ r. ⌜ replyOf r (now (out .exit)) ≡ tableReply t (now (start .entry)) (now (out .entry)) allowance ⌝ }
     ensures { λ r. ⌜ now (out .exit) ≡ bufferAfter (tableReply t (now (start .entry)) (now (out .entry)) allowance) (now (out .entry)) ⌝ }
+    ensures { λ r. ⌜ lengthOf r ≡ prefixLength (tableReply t (now (start .entry)) (now (out .entry)) allowance) ⌝ }
 {
     let pred = precedence::predecessors(t);
     let mem = precedence::memory_mask(t);
@@ -78,8 +89,7 @@ pub fn search(t: Table, start: &[u8], out: &mut [u8], allowance: u64) -> Reply
                 masks,
                 allowance,
             );
-            deliver(outcome, &order, out);
-            Reply::Answered(outcome)
+            deliver(outcome, &order, out)
         }
     }
 }

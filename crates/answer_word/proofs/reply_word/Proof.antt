@@ -1,8 +1,5 @@
-use Rattle.answer_word.specs.Fits.{ReplyFits}
-use Rattle.answer_word.specs.Words.{replyWord}
-use Rattle.search.specs.Replies.{replyOf}
-use Rattle.search.specs.declared.Reply.{Reply}
-use mathlib.Core.Path.{sym, ap, subst, _∙_}
+use Rattle.answer_word.specs.Given.{GivenFits}
+use mathlib.Core.Path.{subst}
 use borrow.Author.Needs.{needs}
 use Rattle.answer_word.proofs.reply_word.Statement.{statement}
 use Rattle.answer_word.proofs.reply_word.Tie as tie
@@ -17,17 +14,13 @@ enum-known-reply-2 : tie.Need-enum-known-reply-2
 enum-known-reply-2 c = search needs
 
 outcome-word-requires : tie.Need-outcome-word-requires
-outcome-word-requires c κs =
-    let start = c .before .before .before .before in
-    subst (λ (r : Reply). ReplyFits (replyOf r (start .args .out .now))) (c .before .reply2 .given .1) (start .pre)
+outcome-word-requires c κs = subst GivenFits (c .before .reply2 .given .1) (c .before .before .before .pre)
 
 returns : tie.Need-returns
 returns c = search needs
 
 returns-2 : tie.Need-returns-2
-returns-2 c =
-    let start = c .before .before .before .before .before in
-    c .outcome-word .ensures ∙ sym (ap (λ (r : Reply). replyWord (replyOf r (start .args .out .now))) (c .before .before .reply2 .given .1))
+returns-2 c = search needs
 
 pub reply-word-spec : {M : Type 1} → statement M
 reply-word-spec =

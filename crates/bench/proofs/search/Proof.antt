@@ -26,7 +26,7 @@ same-length : tie.Need-same-length
 same-length c = search needs
 
 returns : tie.Need-returns
-returns c = search-answered _ _ _ _ _ _ _ (sym (c .before .before .before .before .before .before .before .read .ensures .0) ∙ ap refusalOf (c .before .before .before .before .enum-told .given .1)) (c .before .before .before .before .before .before .before .read .ensures .1 ∙ table-read _ (sym (c .before .before .before .before .before .before .before .read .ensures .0) ∙ ap refusalOf (c .before .before .before .before .enum-told .given .1))) (c .before .before .search .ensures)
+returns c = search-answered _ _ _ _ _ _ _ _ (sym (c .before .before .before .before .before .before .before .read .ensures .0) ∙ ap refusalOf (c .before .before .before .before .enum-told .given .1)) (c .before .before .before .before .before .before .before .read .ensures .1 ∙ table-read _ (sym (c .before .before .before .before .before .before .before .read .ensures .0) ∙ ap refusalOf (c .before .before .before .before .enum-told .given .1))) (c .before .before .search .ensures)
 
 returns-2 : tie.Need-returns-2
 returns-2 c = search-declined _ _ _ _ _ (sym (ap refusalOf (c .before .refusal .given .1)) ∙ c .before .before .before .before .read .ensures .0) (line-refuses _)

@@ -1,7 +1,10 @@
 use lib.ListN.{length}
+use native.Mathlib.Omega.{arith}
 use Rattle.successors.specs.CleanMasks.{slots}
+use Rattle.prefixes.specs.Answer.{found, spent}
 use Rattle.witness_walk.specs.Running.{AtMost}
-use mathlib.Core.Path.{subst}
+use Rattle.search.proofs.CallLaws.{copied}
+use mathlib.Core.Path.{refl, subst}
 use borrow.Author.Needs.{needs}
 use Rattle.search.proofs.deliver.Statement.{statement}
 use Rattle.search.proofs.deliver.Tie as tie
@@ -15,32 +18,41 @@ copy-requires c κs =
     let q = c .before .before .outcome .given .1 in
     (p .0, subst (AtMost slots) q (p .1), subst (AtMost (length (c .before .before .before .before .before .args .out .now))) q (p .2))
 
-enum-told : tie.Need-enum-told
-enum-told c = search needs
-
 enum-known-outcome-2 : tie.Need-enum-known-outcome-2
 enum-known-outcome-2 c = search needs
+
+enum-known-outcome-3 : tie.Need-enum-known-outcome-3
+enum-known-outcome-3 c = search needs
 
 copy-requires-2 : tie.Need-copy-requires-2
 copy-requires-2 c κs =
     let p = c .before .before .before .before .before .pre in
-    let q = c .before .before .outcome2 .given .1 in
+    let q = c .before .before .outcome3 .given .1 in
     (p .0, subst (AtMost slots) q (p .1), subst (AtMost (length (c .before .before .before .before .before .args .out .now))) q (p .2))
 
 same-length : tie.Need-same-length
 same-length c = search needs
 
 returns : tie.Need-returns
-returns c = rw (c .before .before .before .before .before .outcome .given .1) (c .before .before .copy .ensures)
+returns c =
+    let p = c .before .before .before .before .before .before .before .before .pre in
+    let o = c .before .before .before .before .before .outcome .given in
+    rw (o .1)
+    (copied (λ l. found l (o .0 .1 .0)) (o .0 .0) _ _ _ (omega (arith, p .0, subst (AtMost slots) (o .1) (p .1))) (c .before .before .copy .ensures))
 
 returns-2 : tie.Need-returns-2
-returns-2 c = search needs
+returns-2 c =
+    rw (c .before .outcome2 .given .1) (refl, (refl, refl))
 
 same-length-2 : tie.Need-same-length-2
 same-length-2 c = search needs
 
 returns-3 : tie.Need-returns-3
-returns-3 c = rw (c .before .before .before .before .before .outcome2 .given .1) (c .before .before .copy2 .ensures)
+returns-3 c =
+    let p = c .before .before .before .before .before .before .before .before .pre in
+    let o = c .before .before .before .before .before .outcome3 .given in
+    rw (o .1)
+    (copied (λ l. spent l (o .0 .1 .0)) (o .0 .0) _ _ _ (omega (arith, p .0, subst (AtMost slots) (o .1) (p .1))) (c .before .before .copy2 .ensures))
 
 pub deliver-spec : {M : Type 1} → statement M
 deliver-spec =
@@ -48,8 +60,8 @@ deliver-spec =
     (tie.spec
     enum-known-outcome
     copy-requires
-    enum-told
     enum-known-outcome-2
+    enum-known-outcome-3
     copy-requires-2
     same-length
     returns

@@ -10,7 +10,7 @@ use mathlib.Core.Bool.{true, false}
 use Rattle.witness_walk.specs.Running.{Ran}
 use Rattle.successors.specs.CleanMasks.{slots}
 use Rattle.engine.specs.State.{LoadedAs}
-use Rattle.search.proofs.CallLaws.{at-most, call-refused, call-answered, start-refused, room-refused, allowance-refused, none-refused, mask-small, tables-of, counted, count-small, clean-by, began-clean}
+use Rattle.search.proofs.CallLaws.{at-most, call-refused, call-answered, answer-is, start-refused, room-refused, allowance-refused, none-refused, mask-small, tables-of, counted, count-small, clean-by, began-clean}
 use borrow.Author.Needs.{needs}
 use Rattle.search.proofs.search.Statement.{statement}
 use Rattle.search.proofs.search.Tie as tie
@@ -67,10 +67,10 @@ returns-4 : tie.Need-returns-4
 returns-4 c =
     let r = c .before .before .before .before .before .run .ensures in
     let k = counted (c .before .before .before .before .before .before .before .before .before .before .before .before .before .before .before .before .before .before .before .before .before .before .before .before .pre) (c .before .before .before .before .before .before .before .before .before .before .before .before .before .before .before .before .before .before .before .before .before .predecessors .ensures) (c .before .before .before .before .before .before .before .before .before .before .before .before .before .before .before .before .before .before .before .before .memory-mask .ensures) in
-    call-answered _ _ _ _ (c .before .before .before .before .before .run .result) _ _
+    call-answered _ _ _ _ _ _ _ _
+    (answer-is _ _ _ _ _ _
     (none-refused _ _ _ _ (began-clean (c .before .before .before .before .before .before .before .before .before .before .before .before .before .before .before .before .before .before .before .before .before .before .before .before .pre) (c .before .before .before .before .before .before .before .before .before .before .before .before .before .before .before .before .before .before .before .before .before .predecessors .ensures) (c .before .before .before .before .before .before .before .before .before .before .before .before .before .before .before .before .before .before .before .before .memory-mask .ensures) _ _ _ _ _ (subst (LoadedAs _ _ (c .before .before .before .before .before .before .before .before .before .before .before .before .before .before .before .before .before .before .before .before .before .before .before .before .args .start .now) _) (c .before .before .before .before .before .before .before .before .before .before .before .before .loaded .given .1) (c .before .before .before .before .before .before .before .before .before .before .before .before .before .before .load .ensures))) (omega arith) (c .before .before .before .before .before .before .before .before .before .if2 .left))
-    (ran-from ((subst (LoadedAs _ _ (c .before .before .before .before .before .before .before .before .before .before .before .before .before .before .before .before .before .before .before .before .before .before .before .before .args .start .now) _) (c .before .before .before .before .before .before .before .before .before .before .before .before .loaded .given .1) (c .before .before .before .before .before .before .before .before .before .before .before .before .before .before .load .ensures)) .same) r)
-    (at-most (c .before .before .before .before .before .run .result) (memoryCount (c .before .before .before .before .before .before .before .before .before .before .before .before .before .before .before .before .before .before .before .before .before .before .before .before .args .t)) slots (count-small (c .before .before .before .before .before .before .before .before .before .before .before .before .before .before .before .before .before .before .before .before .before .before .before .before .pre) (c .before .before .before .before .before .before .before .before .before .before .before .before .before .before .before .before .before .before .before .before .before .predecessors .ensures) (c .before .before .before .before .before .before .before .before .before .before .before .before .before .before .before .before .before .before .before .before .memory-mask .ensures)) (r .short))
+    (ran-from ((subst (LoadedAs _ _ (c .before .before .before .before .before .before .before .before .before .before .before .before .before .before .before .before .before .before .before .before .before .before .before .before .args .start .now) _) (c .before .before .before .before .before .before .before .before .before .before .before .before .loaded .given .1) (c .before .before .before .before .before .before .before .before .before .before .before .before .before .before .load .ensures)) .same) r))
     (c .before .before .deliver .ensures)
 
 pub search-spec : {M : Type 1} → statement M
