@@ -42,7 +42,7 @@ fn refused(number: u8) -> Reading
 }
 
 // The table if there is no refusal.
-fn table_if(refusal: Refusal, t: Table) -> Reading
+pub fn table_if(refusal: Refusal, t: Table) -> Reading
     ensures { λ r. ⌜ (refusalOf (r .refusal) ≡ refusalOf refusal) × (r .table ≡ tableIf (refusalOf refusal) t) ⌝ }
 {
     match refusal {
