@@ -1,3 +1,4 @@
 pub mod EntryLaws
 pub mod ReplyLaws
 pub mod Demand3Laws
+pub mod DemandLaws

@@ -6,9 +6,9 @@ use mathlib.Core.List.{List, [], List·Memᴰ·not-nil}
 use mathlib.Core.Logic.{_⊎_, inl, inr, _↔_, _≢_}
 use lib.ListN.{take, drop}
 use borrow.Author.Tests.{not-false}
+use Rattle.lists.specs.Lists.{_∈_}
 use Rattle.lists.specs.Below.{some}
 use Rattle.lists.specs.Ascending.{AllAbove, Ascending}
-use Rattle.lists.proofs.ListLaws.{_∈_}
 use Rattle.lists.proofs.MemberLaws.{keep-only}
 use Rattle.table.specs.declared.Table.{Table}
 use Rattle.table.specs.Events.{memory}
@@ -20,14 +20,18 @@ use Rattle.refusals.proofs.PassedLaws.{passed-both, refused-first}
 use Rattle.block.specs.Reading.{readingLines, readRefusal}
 use Rattle.prefixes.specs.Listed.{after}
 use Rattle.prefixes.specs.Answer.{Answer, answer}
-use Rattle.prefixes.specs.Walk.{refused, answered}
+use Rattle.prefixes.specs.Walk.{Reply, refused, answered}
 use Rattle.prefixes.specs.Statements.{Honest}
 use Rattle.model.specs.Witness.{witness}
 use Rattle.model.specs.Prefixes.{clean, cleanPrefixes, search}
 use Rattle.model.proofs.PrefixLaws.{clean-listed, clean-ascending, clean-nonempty, witness-listed}
 use Rattle.search.specs.Replies.{answeredUnless}
 use Rattle.bench.specs.Search.{searchLines, searchRefusal, searchReply}
-use Rattle.bench.specs.Demand3.{testIf, listIf, witnessOf, prefixesOf, Call, replyTo}
+use Rattle.bench.specs.Demands.{testIf, listIf, witnessOf, prefixesOf, Call}
+
+-- the reply to a call, by the definition
+abbrev pub replyTo : List ℕ → List ℕ → Call → Reply Refused
+replyTo s start c = searchReply s start (c .buffer) (c .allowance)
 
 -- a table that reading accepts has a memory event
 pub read-memory : (s : List ℕ) → readRefusal s ≡ accepted → some (decoded s .count) (memory (decoded s)) ≡ true

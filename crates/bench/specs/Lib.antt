@@ -1,4 +1,4 @@
 pub mod Candidate
 pub mod Search
-pub mod Demand3
 pub mod PairRules
+pub mod Demands

@@ -6,8 +6,8 @@ use mathlib.Core.List.{List, [], _∷_, cons-ne-nil, List·Memᴰ·head, List·M
 use native.Mathlib.Omega.{arith}
 use lib.ListN.{length}
 use borrow.Author.Tests.{ltb-false, not-false}
+use Rattle.lists.specs.Lists.{_∈_}
 use Rattle.lists.specs.Ascending.{less}
-use Rattle.lists.proofs.ListLaws.{_∈_}
 use Rattle.lists.proofs.MemberLaws.{keep-only}
 use Rattle.table.specs.declared.Table.{Table}
 use Rattle.table.specs.Events.{memoryEvents, memoryCount}
@@ -29,7 +29,8 @@ use Rattle.candidate.specs.CandidateLines.{startWrong}
 use Rattle.precedence.specs.Counts.{Small}
 use Rattle.search.specs.Replies.{maxAllowance, startLines, answeredUnless, replyOf, lengthOf, prefixLength}
 use Rattle.search.proofs.CallLaws.{count-small}
-use Rattle.bench.specs.Search.{searchLines, searchRefusal, searchReply, searchBuffer}
+use Rattle.bench.specs.Search.{searchLines, searchRefusal, searchReply}
+use Rattle.bench.specs.Demands.{Promised}
 use Rattle.bench.proofs.EntryLaws.{small-read}
 use Rattle.witness_walk.specs.declared.Outcome.the-variants.{Found, NoneLeft, Spent}
 use Rattle.search.specs.declared.Reply as code
@@ -112,12 +113,9 @@ module _ (out : List ℕ) where
   word-given (Answered (NoneLeft v)) e = refl
   word-given (Answered (Spent len v)) e = ap (λ (n : ℕ). word 9 n 0 0 v) e
 
--- what the search entry promises of its reply r and of the buffer afterwards
-abbrev Promised : (s start out : List ℕ) (b : ℕ) → code.Reply → List ℕ → Type 0
-Promised s start out b r after =
-    (replyOf r after ≡ searchReply s start out b) × ((after ≡ searchBuffer s start out b) × (lengthOf r ≡ prefixLength (searchReply s start out b)))
-
-module _ (s start out : List ℕ) (b : ℕ) (after : List ℕ) (r : code.Reply) (h : Promised s start out b r after) where
+-- a call, by what the search entry promises of it
+module _ (s start out : List ℕ) (b : ℕ) (after : List ℕ) (r : code.Reply)
+    (h : Promised s start (record { allowance = b; buffer = out; reply = r; after = after })) where
   counts : lengthOf r ≡ prefixLength (replyOf r after)
   counts = h .1 .1 ∙ ap prefixLength (sym (h .0))
 

@@ -7,9 +7,8 @@ use mathlib.Core.Logic.{_≢_, _↔_}
 use lib.ListN.{length, take}
 use lib.Count.{ones}
 use Rattle.lists.specs.Below.{below}
-use Rattle.lists.specs.Lists.{has, keep}
+use Rattle.lists.specs.Lists.{_∈_, has, keep}
 use Rattle.lists.specs.Ascending.{Ascending}
-use Rattle.lists.proofs.ListLaws.{_∈_}
 use Rattle.lists.proofs.KeepLaws.{all-weaken}
 use Rattle.lists.proofs.MemberLaws.{has-keep, below-has}
 use Rattle.masks.specs.Bit.{bit}

@@ -12,8 +12,8 @@ use lib.Dec.{leb, leb·zero}
 use lib.Bits.{bitAnd, bitOr, bitXor}
 use lib.Count.{trailingZeros}
 use borrow.Author.Tests.{leb-true, le-leb}
+use Rattle.lists.specs.Lists.{_∈_}
 use Rattle.lists.proofs.BoolLaws.{and-l, and-r}
-use Rattle.lists.proofs.ListLaws.{_∈_}
 use Rattle.masks.specs.Bit.{bit}
 use Rattle.masks.proofs.BitLaws.{bit-zero}
 use Rattle.masks.proofs.PowerLaws.{bit-high, trailing-lowest}

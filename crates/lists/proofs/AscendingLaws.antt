@@ -8,9 +8,9 @@ use mathlib.Core.List.{List·Memᴰ·head, List·Memᴰ·tail, List·Memᴰ·cas
 use mathlib.Core.Logic.{_⊎_, inl, inr, ⊎-elim}
 use lib.Dec.{eqb, ltb}
 use borrow.Author.Tests.{ltb-true, lt-ltb, eqb-true, eq-eqb, ne-eqb}
-use Rattle.lists.specs.Lists.{kept, keep}
+use Rattle.lists.specs.Lists.{_∈_, kept, keep}
 use Rattle.lists.specs.Ascending.{less, AllAbove, Ascending}
-use Rattle.lists.proofs.ListLaws.{_∈_, keep-first}
+use Rattle.lists.proofs.ListLaws.{keep-first}
 
 -- a list with a smaller first entry comes first
 pub less-head : (x y : ℕ) (p q : List ℕ) → x < y → less (x ∷ p) (y ∷ q) ≡ true

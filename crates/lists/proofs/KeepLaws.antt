@@ -3,9 +3,8 @@ use Prim.Native.Nat.{ℕ}
 use mathlib.Core.Path.{_≡_, refl, ap₂}
 use mathlib.Core.Bool.{Bool, true, false}
 use mathlib.Core.List.{List, [], _∷_, List·Memᴰ·head, List·Memᴰ·tail}
-use Rattle.lists.specs.Lists.{all, kept, keep}
+use Rattle.lists.specs.Lists.{_∈_, all, kept, keep}
 use Rattle.lists.proofs.BoolLaws.{and-l, and-r}
-use Rattle.lists.proofs.ListLaws.{_∈_}
 
 -- tests that agree on the entries keep the same
 pub keep-same : {A : Type 0} (f g : A → Bool) (l : List A) → ((x : A) → x ∈ l → f x ≡ g x) → keep f l ≡ keep g l

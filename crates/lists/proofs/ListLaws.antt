@@ -2,15 +2,10 @@
 use Prim.Native.Nat.{ℕ}
 use mathlib.Core.Path.{_≡_, refl, sym, ap, _∙_}
 use mathlib.Core.Bool.{Bool, true, false, _||_, false≢true, and-eq-true-iff}
-use mathlib.Core.List.{List, [], _∷_, _++_, cons-ne-nil, head-eq-of-cons-eq, List·Memᴰ}
+use mathlib.Core.List.{List, [], _∷_, _++_, cons-ne-nil, head-eq-of-cons-eq}
 use lib.Dec.{eqb}
 use borrow.Author.Tests.{eqb-true}
 use Rattle.lists.specs.Lists.{all, has, kept, keep}
-
--- a is an entry of the list
-infix 50 _∈_
-abbrev pub _∈_ : {A : Type 0} → A → List A → Type 0
-a ∈ l = List·Memᴰ a l
 
 -- a test that every entry passes is passed by every entry kept
 pub all-keep : {A : Type 0} (p f : A → Bool) (l : List A) → all p l ≡ true → all p (keep f l) ≡ true

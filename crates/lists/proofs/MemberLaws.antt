@@ -9,9 +9,9 @@ use mathlib.Core.Logic.{⊎-elim}
 use lib.Dec.{eqb, ltb}
 use borrow.Author.Tests.{ltb-true, lt-ltb, eqb-true, eq-eqb}
 use Rattle.lists.specs.Below.{upFrom, below}
-use Rattle.lists.specs.Lists.{all, has, kept, keep}
+use Rattle.lists.specs.Lists.{_∈_, all, has, kept, keep}
 use Rattle.lists.proofs.BoolLaws.{bool-ext}
-use Rattle.lists.proofs.ListLaws.{_∈_, all-has}
+use Rattle.lists.proofs.ListLaws.{all-has}
 
 -- a number in the rest of a list is in the list
 pub has-later : (x y : ℕ) (l : List ℕ) → has x l ≡ true → has x (y ∷ l) ≡ true

@@ -7,7 +7,7 @@ use native.Mathlib.Nat.{eq-or-lt-of-le}
 use native.Mathlib.Omega.{arith}
 use lib.Dec.{ltb}
 use borrow.Author.Tests.{ltb-true, ltb-false, not-true, not-false}
-use Rattle.lists.specs.Below.{firstFrom, lowest, some, every}
+use Rattle.lists.specs.Below.{firstFrom, lowest, some, every, IsLowest}
 
 -- the search from k stops by k + m
 first-le : (f : ℕ → Bool) (k m : ℕ) → firstFrom f k m ≤ k + m
@@ -58,6 +58,12 @@ lowest-hit n f h = first-hit f 0 n (omega arith)
 -- no number under the lowest passes
 pub lowest-least : (n : ℕ) (f : ℕ → Bool) (k : ℕ) → k < lowest n f → f k ≡ false
 lowest-least n f k h = first-least f 0 n k (omega arith) h
+
+-- the lowest number is the lowest, where some passes
+pub is-lowest : (n : ℕ) (f : ℕ → Bool) → some n f ≡ true → IsLowest n f (lowest n f)
+is-lowest n f h =
+    let l : lowest n f < n = ltb-true _ _ h in
+    (l, lowest-hit n f l, λ j k. lowest-least n f j k)
 
 -- tests that agree below the bound have the same lowest
 pub lowest-same : (n : ℕ) (f g : ℕ → Bool) → ((k : ℕ) → k < n → f k ≡ g k) → lowest n f ≡ lowest n g

@@ -1,6 +1,7 @@
 -- Tests of the numbers below a bound: the lowest that passes, whether some or every one passes.
-use Prim.Native.Nat.{ℕ, zero, suc}
-use mathlib.Core.Bool.{Bool, cond, not}
+use Prim.Native.Nat.{ℕ, zero, suc, _<_}
+use mathlib.Core.Path.{_≡_}
+use mathlib.Core.Bool.{Bool, true, false, cond, not}
 use mathlib.Core.List.{List, [], _∷_}
 use lib.Dec.{ltb}
 
@@ -20,6 +21,10 @@ some n f = ltb (lowest n f) n
 -- every number below n passes
 abbrev pub every : ℕ → (ℕ → Bool) → Bool
 every n f = not (some n (λ k. not (f k)))
+
+-- k is the lowest number below n that passes
+abbrev pub IsLowest : ℕ → (ℕ → Bool) → ℕ → Type 0
+IsLowest n f k = (k < n) × (f k ≡ true) × ((j : ℕ) → j < k → f j ≡ false)
 
 -- k, k + 1, .. , k + m - 1
 unfoldable pub upFrom : ℕ → ℕ → List ℕ

@@ -1,8 +1,13 @@
 -- Tests and parts of lists.
 use Prim.Native.Nat.{ℕ, suc, _+_}
 use mathlib.Core.Bool.{Bool, true, false, cond, not, _&&_, _||_}
-use mathlib.Core.List.{List, [], _∷_}
+use mathlib.Core.List.{List, [], _∷_, List·Memᴰ}
 use lib.Dec.{eqb}
+
+-- a is an entry of the list
+infix 50 _∈_
+abbrev pub _∈_ : {A : Type 0} → A → List A → Type 0
+a ∈ l = List·Memᴰ a l
 
 -- every entry passes
 abbrev pub all : {A : Type 0} → (A → Bool) → List A → Bool

@@ -1,3 +1,4 @@
 pub mod WorkedCases
 pub mod PrefixLaws
+pub mod SaysLaws
 pub mod VerdictLaws

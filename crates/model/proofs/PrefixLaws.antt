@@ -9,10 +9,10 @@ use lib.ListN.{length}
 use lib.Dec.{eqb, ltb}
 use borrow.Author.Tests.{ltb-true, lt-ltb, eqb-true, not-true, not-false}
 use Rattle.lists.specs.Below.{some, every, below}
-use Rattle.lists.specs.Lists.{all, any, keep, has, count, distinct, before}
+use Rattle.lists.specs.Lists.{_∈_, all, any, keep, has, count, distinct, before}
 use Rattle.lists.specs.Ascending.{AllAbove, Ascending}
 use Rattle.lists.proofs.BoolLaws.{and-l, and-r, or-implied}
-use Rattle.lists.proofs.ListLaws.{_∈_, all-has}
+use Rattle.lists.proofs.ListLaws.{all-has}
 use Rattle.lists.proofs.MemberLaws.{has-all, has-left, has-keep, below-has, keep-only, keep-each}
 use Rattle.lists.proofs.DistinctLaws.{distinct-left, distinct-apart, before-left, distinct-count, pigeonhole}
 use Rattle.lists.proofs.SomeLaws.{some-found, none-at, every-at, at-every}

@@ -3,6 +3,7 @@ pub mod Returns
 pub mod Axioms
 pub mod Witness
 pub mod Verdict
+pub mod Says
 pub mod Prefixes
 pub mod Computes
 pub mod Cases

@@ -11,9 +11,9 @@ use lib.ListN.{length}
 use lib.Dec.{eqb, ltb}
 use borrow.Author.Tests.{ltb-true, lt-ltb, eqb-true, eq-eqb}
 use Rattle.lists.specs.Below.{upFrom, below}
-use Rattle.lists.specs.Lists.{all, has, kept, keep}
+use Rattle.lists.specs.Lists.{_∈_, all, has, kept, keep}
 use Rattle.lists.specs.Ascending.{less, AllAbove, Ascending}
-use Rattle.lists.proofs.ListLaws.{_∈_, all-keep, all-has}
+use Rattle.lists.proofs.ListLaws.{all-keep, all-has}
 use Rattle.lists.proofs.AscendingLaws.{less-head, less-append, less-extended, at-above, ascending-append}
 use Rattle.prefixes.specs.Listed.{joined, branch, extensions, listed}
 use Rattle.prefixes.specs.Statements.{PrefixClosed, Rising}

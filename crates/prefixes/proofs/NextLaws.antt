@@ -6,9 +6,8 @@ use mathlib.Core.Path.{_≡_, refl, sym, ap, _∙_, subst}
 use mathlib.Core.Bool.{Bool, true, false, not, true≢false}
 use mathlib.Core.List.{List, [], _∷_, _++_, append-assoc, List·Memᴰ·cases-cons, List·Memᴰ·not-nil}
 use mathlib.Core.Logic.{_⊎_, inl, inr, ⊎-elim}
-use Rattle.lists.specs.Lists.{keep}
+use Rattle.lists.specs.Lists.{_∈_, keep}
 use Rattle.lists.specs.Ascending.{less, Ascending}
-use Rattle.lists.proofs.ListLaws.{_∈_}
 use Rattle.lists.proofs.KeepLaws.{keep-same, keep-none}
 use Rattle.lists.proofs.AscendingLaws.{less-head, less-irrefl, less-trans, less-asym, less-append, above-at}
 use Rattle.lists.proofs.BetweenLaws.{less-after, Begins, begins-at, between, between-up}

@@ -1,3 +1,4 @@
 pub mod LineLaws
 pub mod PassedLaws
 pub mod InRange
+pub mod ExactlyLaws

@@ -1,3 +1,4 @@
 pub mod Lines
+pub mod Exactly
 pub mod TableLines
 pub mod Refusals
