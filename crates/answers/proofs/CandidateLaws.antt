@@ -1,11 +1,11 @@
 -- A candidate of a table: what the verdict and the returned list are, once its lines are known.
 use Prim.Native.Nat.{ℕ, _≤_, _<_}
 use mathlib.Core.Path.{_≡_, sym, ap, _∙_}
-use mathlib.Core.Bool.{true, false, not, _||_}
+use mathlib.Core.Bool.{Bool, true, false, not, _||_}
 use mathlib.Core.List.{List, _++_}
 use lib.ListN.{length, drop}
 use lib.Dec.{eqb}
-use borrow.Author.Tests.{lt-ltb, le-ltb, eqb-true, not-false}
+use borrow.Author.Tests.{lt-ltb, le-ltb, eqb-true, eq-eqb, not-false}
 use Rattle.lists.proofs.BoolLaws.{or-off}
 use Rattle.lists.proofs.FilledLaws.{length-upTo}
 use Rattle.table.specs.declared.Table.{Table}
@@ -60,7 +60,7 @@ module _ (t : Table) (gmo out : List ℕ) where
   unfolding orderLines
   determine-12 a = left-alone 12 (whole-here _ _ _ _ a)
 
-  pub determine-13 : orderLengthWrong t gmo ≡ false → orderWrong t gmo ≡ true → DeterminedAs (byLine 13) out
+  determine-13 : orderLengthWrong t gmo ≡ false → orderWrong t gmo ≡ true → DeterminedAs (byLine 13) out
   unfolding orderLines
   determine-13 a b = left-alone 13 (whole-next _ _ _ _ _ a (whole-here _ _ _ _ b))
 
@@ -88,3 +88,14 @@ order-length-wrong t gmo n e = ap (λ (m : ℕ). not (eqb (length gmo) m)) e
 pub returned-length : (t : Table) (rf gmo : List ℕ) → (orderLengthWrong t gmo || returnedLengthWrong t rf) ≡ false → length rf ≡ t .count
 unfolding returnedLengthWrong
 returned-length t rf gmo h = eqb-true _ _ (not-false _ (or-off (orderLengthWrong t gmo) _ h .1))
+
+-- Refused by 13, from what the code's tests say: the number, and the buffer left alone.
+module _ (t : Table) (gmo out : List ℕ) (n : ℕ) (e : n ≡ memoryCount t) (h : length gmo ≡ n) (w : Bool) (f : w ≡ orderWrong t gmo) (g : w ≡ true) where
+  told-13 : DeterminedAs t gmo out (byLine 13) out
+  told-13 = determine-13 t gmo out (sym (order-length-wrong t gmo n e) ∙ ap not (eq-eqb _ _ h)) (sym f ∙ g)
+
+  pub refused-13 : byLine 13 ≡ firstLine (t .count) (orderLines t gmo out)
+  refused-13 = told-13 .0
+
+  pub left-13 : out ≡ writtenUnless (firstLine (t .count) (orderLines t gmo out)) (returns t gmo) out
+  left-13 = told-13 .1

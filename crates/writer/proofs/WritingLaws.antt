@@ -1,6 +1,6 @@
 -- What writing gives once the refusal is known.
 use Prim.Native.Nat.{ℕ, _+_, _≤_, _<_}
-use mathlib.Core.Path.{_≡_, sym, ap, _∙_}
+use mathlib.Core.Path.{_≡_, refl, sym, ap, _∙_}
 use mathlib.Core.Bool.{false, not}
 use mathlib.Core.List.{List}
 use native.Mathlib.Numerals.{add-one}
@@ -31,10 +31,14 @@ writes : (t : Table) (out : List ℕ) (r : Refused) (now : List ℕ) → r ≡ w
 unfolding writtenBlock
 writes t out r now e h = (e, h ∙ ap (λ (q : Refused). blockUnless q (encoded t) out) e)
 
--- the buffer has another length
-pub writes-short : (t : Table) (out now : List ℕ) → (length out ≡ blockLength → ⊥) → now ≡ out → Writes t out (byLine 1) now
-unfolding writeRefusal writingLines
-writes-short t out now h e = writes t out (byLine 1) now (whole-here _ _ _ _ (ap not (ne-eqb _ _ h))) e
+-- The buffer has another length: the number, and the buffer left alone.
+module _ (t : Table) (out : List ℕ) (h : length out ≡ blockLength → ⊥) where
+  pub refused-short : byLine 1 ≡ writeRefusal t out
+  unfolding writeRefusal writingLines
+  refused-short = whole-here _ _ _ _ (ap not (ne-eqb _ _ h))
+
+  pub left-short : out ≡ writtenBlock t out
+  left-short = writes t out (byLine 1) out refused-short refl .1
 
 -- it has 512 bytes: lines 5 to 11 decide
 pub writes-whole : (t : Table) (out : List ℕ) (r : Refused) (now : List ℕ) → length out ≡ blockLength → r ≡ firstLine (t .count) (tableLines false t)

@@ -1,7 +1,7 @@
 use mathlib.Core.Path.{ap, sym, _∙_}
 use mathlib.Core.Bool.{not}
 use borrow.Author.Tests.{eq-eqb, ne-eqb}
-use Rattle.answers.proofs.CandidateLaws.{determine-12, determine-13, determine-16, determine-none, order-length-wrong}
+use Rattle.answers.proofs.CandidateLaws.{determine-12, refused-13, left-13, determine-16, determine-none, order-length-wrong}
 use borrow.Author.Needs.{needs}
 use Rattle.answers.proofs.determine.Statement.{statement}
 use Rattle.answers.proofs.determine.Tie as tie
@@ -16,7 +16,7 @@ order-wrong-requires : tie.Need-order-wrong-requires
 order-wrong-requires c κs = search needs
 
 returns-2 : tie.Need-returns-2
-returns-2 c = determine-13 _ _ _ (sym (order-length-wrong _ _ _ (c .before .before .before .total .ensures)) ∙ ap not (eq-eqb _ _ (c .before .before .if1 .left))) (sym (c .before .order-wrong .ensures) ∙ c .if2 .taken)
+returns-2 c = (search (refused-13, needs), search (left-13, needs))
 
 cast-if3 : tie.Need-cast-if3
 cast-if3 c = search needs

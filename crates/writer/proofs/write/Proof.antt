@@ -1,11 +1,10 @@
-use mathlib.Core.Path.{refl}
 use borrow.Author.Needs.{needs}
-use Rattle.writer.proofs.WritingLaws.{writes-short}
+use Rattle.writer.proofs.WritingLaws.{refused-short, left-short}
 use Rattle.writer.proofs.write.Statement.{statement}
 use Rattle.writer.proofs.write.Tie as tie
 
 returns : tie.Need-returns
-returns c = writes-short (c .before .before .args .t) (c .before .before .args .out .now) _ (c .if1 .taken) refl
+returns c = (search (refused-short, needs), search (left-short, needs))
 
 write-whole-requires : tie.Need-write-whole-requires
 write-whole-requires c κs = search needs
