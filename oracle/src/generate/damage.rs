@@ -5,6 +5,16 @@ use crate::encode::{encode, seal};
 use crate::layout::*;
 use crate::table::{Kind, Table};
 
+/// A table's block with bytes changed, and a check that is right.
+pub fn changed(table: &Table, changes: &[(usize, u8)]) -> Vec<u8> {
+    let mut block = encode(table);
+    for &(at, value) in changes {
+        block[at] = value;
+    }
+    seal(&mut block);
+    block
+}
+
 /// A table's block with one byte changed, mostly in one of its records, and often in what an AMO
 /// does; mostly the check is made right again.
 pub fn damaged(prng: &mut Prng, table: &Table) -> Vec<u8> {

@@ -1,7 +1,8 @@
 //! The stored stream of `readings`: valid tables, and breaches alone and together.
 
 use super::breaches::{base_block, breaches, Breach};
-use super::damage::operation_byte;
+use super::damage::{changed, operation_byte};
+use super::kinds::{control_clauses, each_byte, fields_out_of_range};
 use super::operations::operation_edges;
 use super::prng::Prng;
 use super::random::{any_table, random_table};
@@ -41,6 +42,9 @@ pub fn make_readings() -> Vec<u8> {
         (0..RANDOM_TABLES).map(|_| encode(&any_table(&mut prng))).collect(),
         (0..DAMAGED_TABLES).map(|number| damaged_table(&mut prng, number)).collect(),
         (0..RANDOM_BLOCKS).map(|number| random_block(&mut prng, number)).collect(),
+        each_byte(),
+        fields_out_of_range(),
+        control_clauses().iter().map(encode).collect(),
     ];
     let mut stream = Vec::new();
     for frame in families.concat() {
@@ -55,16 +59,6 @@ fn broken(breaches: &[Breach]) -> Vec<u8> {
     for breach in breaches {
         breach.apply(&mut block);
     }
-    block
-}
-
-/// A table's block with bytes changed, and a check that is right.
-fn changed(table: &Table, changes: &[(usize, u8)]) -> Vec<u8> {
-    let mut block = encode(table);
-    for &(at, value) in changes {
-        block[at] = value;
-    }
-    seal(&mut block);
     block
 }
 

@@ -2,6 +2,7 @@
 //! and buffers of other lengths.
 
 use super::breaches::{base, base_block, breaches};
+use super::kinds::{control_clauses, fields_out_of_range};
 use super::operations::operation_edges;
 use super::prng::Prng;
 use super::random::any_table;
@@ -32,6 +33,10 @@ pub fn make_writes() -> Vec<u8> {
     for length in [0, 1, 511, 513, 1024] {
         push_call(&mut stream, &raw(&base()), length);
         push_call(&mut stream, &RawTable { harts: 9, ..raw(&base()) }, length);
+    }
+    let controls = control_clauses().iter().map(encode).collect();
+    for block in [fields_out_of_range(), controls].concat() {
+        push_call(&mut stream, &RawTable::of_block(&block), BLOCK_LENGTH);
     }
     stream
 }
