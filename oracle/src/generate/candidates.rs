@@ -2,6 +2,7 @@
 
 use super::breaches::{base, base_block, breaches};
 use super::cases::*;
+use super::decided::decided;
 use super::operations::{mixed_operation_cases, operation_cases};
 use super::orders::*;
 use super::prng::Prng;
@@ -81,6 +82,14 @@ pub fn make_candidates() -> Calls {
     let mut prng = Prng::new(SEED);
     for _ in 0..RANDOM_TABLES {
         random_calls(&mut calls, &mut prng);
+    }
+    for (name, test) in atomicity_place_cases() {
+        every_order(&mut calls, name, &test);
+    }
+    writes_after_the_sc(&mut calls);
+    for case in decided() {
+        calls.lend(&encode(&case.table));
+        both_entries(&mut calls, case.name, &case.table, &case.order);
     }
     calls
 }
@@ -242,6 +251,22 @@ fn annotations(calls: &mut Calls) {
                 }
             }
         }
+    }
+}
+
+/// "if the write itself fails to precede": an LR that returned from a write after its SC. The load
+/// value breaks before atomicity is asked, or preserved order where the write is of its own hart.
+fn writes_after_the_sc(calls: &mut Calls) {
+    for writer in [store(1, X, 2), amo(1, X, 0, 2)] {
+        let entry = if writer.reads() { 1 } else { NON_READER };
+        let test = table(vec![lr(0, X, 2), sc(0, X, 1), writer]);
+        let returned = [2, NON_READER, entry];
+        single(calls, "atomicity-write-after-the-sc", &test, &returned, &[0, 1, 2]);
+    }
+    let own = table(vec![store(0, X, 3), lr(0, X, 3), sc(0, X, 1)]);
+    let returned = [NON_READER, 0, NON_READER];
+    for order in [[1, 2, 0], [2, 1, 0]] {
+        single(calls, "atomicity-own-write-after-the-sc", &own, &returned, &order);
     }
 }
 

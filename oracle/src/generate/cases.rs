@@ -221,6 +221,41 @@ pub fn atomicity_cases() -> Vec<Case> {
     ]
 }
 
+/// Atomicity's begin and the writer that it names: own stores that the LR returns from, foreign
+/// writers of each kind and number, two LRs at once.
+pub fn atomicity_place_cases() -> Vec<Case> {
+    let own_store = [store(0, X, 3), lr(0, X, 3), sc(0, X, 1)];
+    let behind_own = |others: Vec<Event>| table([own_store.to_vec(), others].concat());
+    let pair = [lr(0, X, 0), sc(0, X, 1)];
+    let with = |others: Vec<Event>| table([pair.to_vec(), others].concat());
+    let foreign_pair = vec![lr(1, X, 0), sc(1, X, 2)];
+    let then_store = [foreign_pair.clone(), vec![store(2, X, 3)]].concat();
+    let two_stores = vec![store(1, X, 2), store(2, X, 4)];
+    vec![
+        ("atomicity-from-the-write-two-stores", behind_own(two_stores).with_final(X, 1)),
+        ("atomicity-from-the-write-amo", behind_own(vec![amo(1, X, 0, 2)]).with_final(X, 1)),
+        ("atomicity-from-the-write-sc", behind_own(foreign_pair).with_final(X, 1)),
+        (
+            "atomicity-from-the-second-write",
+            table(vec![store(0, X, 3), store(0, X, 4), lr(0, X, 4), sc(0, X, 1), store(1, X, 2)]),
+        ),
+        (
+            "atomicity-from-a-foreign-write",
+            table(vec![store(1, X, 2), lr(0, X, 2), sc(0, X, 1), store(2, X, 3)]),
+        ),
+        ("atomicity-amo-is-lowest", with(vec![amo(1, X, 0, 2), store(2, X, 3)])),
+        ("atomicity-sc-is-lowest", with(then_store)),
+        (
+            "atomicity-store-before-the-lr-is-lowest",
+            table(vec![store(1, X, 2), lr(0, X, 0), sc(0, X, 1), amo(2, X, 0, 3)]),
+        ),
+        (
+            "atomicity-two-lrs",
+            table(vec![lr(0, X, 0), lr(1, X, 0), sc(1, X, 2), sc(0, X, 1), store(2, X, 3)]),
+        ),
+    ]
+}
+
 /// Values stated that some orders give and others don't.
 pub fn value_cases() -> Vec<Case> {
     let two_stores = || table(vec![store(0, X, 1), store(1, X, 2), load(2, X, 1)]);

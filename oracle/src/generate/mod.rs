@@ -4,6 +4,7 @@ pub mod breaches;
 pub mod candidates;
 pub mod cases;
 pub mod damage;
+pub mod decided;
 pub mod kinds;
 pub mod operations;
 pub mod orders;

@@ -1,6 +1,8 @@
 //! The stored stream of `walks`.
 
 use super::breaches::{base, base_block, breaches};
+use super::cases::atomicity_place_cases;
+use super::decided::decided_cases;
 use super::operations::{mixed_operation_cases, operation_cases};
 use super::orders::{bytes, lawful_order, linear_extension, permutation, state_outcome};
 use super::prng::Prng;
@@ -89,6 +91,9 @@ pub fn make_walks() -> Vec<u8> {
     }
     unclean_starts(&mut calls);
     refused_tables(&mut calls, prng);
+    for (_, test) in [decided_cases(), atomicity_place_cases()].concat() {
+        walk_by_witnesses(&mut calls, prng, &test);
+    }
     calls.stream
 }
 
