@@ -54,6 +54,17 @@ copied say len order out after h w = (
     e : length (take len order) ≡ len
     e = length-take-le len order h
 
+-- none left hands out nothing
+module _ {o : Outcome} {v : ℕ} (e : o ≡ NoneLeft v) (order out : List ℕ) where
+  pub none-said : _≡_ {A = Reply Refused} (answered (noneLeft v)) (answered (outcomeOf o order))
+  none-said = rw e
+
+  pub none-written : out ≡ bufferAfter (answered (outcomeOf o order)) out
+  none-written = rw e
+
+  pub none-counted : 0 ≡ prefixLength (answered (outcomeOf o order))
+  none-counted = rw e
+
 module _ (t : Table) (start out : List ℕ) (b : ℕ) where
   -- a line refuses: nothing is written
   pub call-refused : (n : ℕ) → byLine n ≡ firstLine (t .count) (startLines t start out b) →

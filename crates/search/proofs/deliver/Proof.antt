@@ -3,7 +3,7 @@ use native.Mathlib.Omega.{arith}
 use Rattle.successors.specs.CleanMasks.{slots}
 use Rattle.prefixes.specs.Answer.{found, spent}
 use Rattle.witness_walk.specs.Running.{AtMost}
-use Rattle.search.proofs.CallLaws.{copied}
+use Rattle.search.proofs.CallLaws.{copied, none-said, none-written, none-counted}
 use mathlib.Core.Path.{refl, subst}
 use borrow.Author.Needs.{needs}
 use Rattle.search.proofs.deliver.Statement.{statement}
@@ -41,8 +41,7 @@ returns c =
     (copied (λ l. found l (o .0 .1 .0)) (o .0 .0) _ _ _ (omega (arith, p .0, subst (AtMost slots) (o .1) (p .1))) (c .before .before .copy .ensures))
 
 returns-2 : tie.Need-returns-2
-returns-2 c =
-    rw (c .before .outcome2 .given .1) (refl, (refl, refl))
+returns-2 c = (search (none-said, needs), (search (none-written, needs), search (none-counted, needs)))
 
 same-length-2 : tie.Need-same-length-2
 same-length-2 c = search needs
