@@ -57,6 +57,23 @@ count-has x (y ∷ l) h = go (eqb x y) h (count-has x l)
     go true h later = omega arith
     go false h later = omega (arith, later h)
 
+-- a number that is not in the list is not counted
+pub count-none : (x : ℕ) (l : List ℕ) → has x l ≡ false → count x l ≡ 0
+count-none x [] h = refl
+count-none x (y ∷ l) h = go (eqb x y) h (count-none x l)
+  where
+    go : (b : Bool) → (b || has x l) ≡ false → (has x l ≡ false → count x l ≡ 0) → cond b 1 0 + count x l ≡ 0
+    go true h later = absurd (true≢false h)
+    go false h later = omega (arith, later h)
+
+-- one that is counted is in the list
+pub counted-has : (x : ℕ) (l : List ℕ) → count x l ≡ 1 → has x l ≡ true
+counted-has x l h = go (has x l) refl
+  where
+    go : (b : Bool) → has x l ≡ b → b ≡ true
+    go true e = refl
+    go false e = absurd (omega (arith, count-none x l e))
+
 -- a list has no entry twice, if each is counted once at most
 pub distinct-count : (l : List ℕ) → ((x : ℕ) → has x l ≡ true → count x l ≤ 1) → distinct l ≡ true
 distinct-count [] h = refl

@@ -1,5 +1,5 @@
 -- The list of clean prefixes has each nonempty clean prefix once, ascending; and every witness is one of them.
-use Prim.Native.Nat.{ℕ, _<_}
+use Prim.Native.Nat.{ℕ, _≤_, _<_}
 use native.Mathlib.Omega.{arith}
 use mathlib.Core.Path.{_≡_, refl, sym, ap, _∙_}
 use mathlib.Core.Bool.{Bool, true, false, not, _&&_, _||_, or-true, and-eq-true-iff}
@@ -7,24 +7,25 @@ use mathlib.Core.List.{List, [], _∷_, _++_, Sublistᴰ, Sublistᴰ·slnil, Sub
 use mathlib.Core.Logic.{_↔_, _≢_}
 use lib.ListN.{length}
 use lib.Dec.{eqb, ltb}
-use borrow.Author.Tests.{ltb-true, lt-ltb, eqb-true, not-true, not-false}
+use borrow.Author.Tests.{ltb-true, lt-ltb, eqb-true, eq-eqb, not-true, not-false}
 use Rattle.lists.specs.Below.{some, every, below}
 use Rattle.lists.specs.Lists.{_∈_, all, any, keep, has, count, distinct, before}
 use Rattle.lists.specs.Ascending.{AllAbove, Ascending}
 use Rattle.lists.proofs.BoolLaws.{and-l, and-r, or-implied}
 use Rattle.lists.proofs.ListLaws.{all-has}
 use Rattle.lists.proofs.MemberLaws.{has-all, has-left, has-keep, below-has, keep-only, keep-each}
-use Rattle.lists.proofs.DistinctLaws.{distinct-left, distinct-apart, before-left, distinct-count, pigeonhole}
+use Rattle.lists.proofs.DistinctLaws.{distinct-left, distinct-apart, before-left, counted-has, distinct-count, pigeonhole}
 use Rattle.lists.proofs.SomeLaws.{some-found, none-at, every-at, at-every}
+use Rattle.prefixes.specs.Listed.{listed}
 use Rattle.prefixes.specs.Statements.{PrefixClosed}
-use Rattle.prefixes.proofs.ListedLaws.{rising-keep, listed-only, listed-each, listed-ascending, listed-nonempty}
+use Rattle.prefixes.proofs.ListedLaws.{rising-keep, kept-distinct, listed-only, listed-each, listed-ascending, listed-nonempty}
 use Rattle.table.specs.declared.Table.{Table}
 use Rattle.table.specs.Events.{memory, memoryEvents, memoryCount}
 use Rattle.model.specs.Rules.{rules, staticRules, holds, mayOrder, ppo, staticPpo}
 use Rattle.model.specs.Returns.{returns}
 use Rattle.model.specs.Axioms.{breaksPpo, preservedOrder, loadValue, atomicity, valuesRead, finalValues}
 use Rattle.model.specs.Witness.{isMemoryEvent, isOrder, lawful, witness}
-use Rattle.model.specs.Prefixes.{isPrefix, predecessorsListed, clean, cleanPrefixes}
+use Rattle.model.specs.Prefixes.{isPrefix, predecessorsListed, clean, cleanPrefixes, orders, witnesses}
 
 -- some test of a list holds, if some test of a sublist does
 any-sublist : {l m : List Bool} → Sublistᴰ l m → any holds l ≡ true → any holds m ≡ true
@@ -175,4 +176,61 @@ module _ (t : Table) where
   witness-listed p s = (
     λ m. keep-only (witness t) (cleanPrefixes t) p m .1,
     λ h. keep-each (witness t) (cleanPrefixes t) p (clean-listed p .1 (witness-nonempty p s h, witness-clean p h)) h,
+  )
+
+  -- what makes a list an order: every event of the test is in it, once
+  record Order (p : List ℕ) : Type 0 where
+    events : all (λ e. has e (memoryEvents t)) p ≡ true
+    each : all (λ e. has e p) (memoryEvents t) ≡ true
+    different : distinct p ≡ true
+
+  order-has : (p : List ℕ) → isOrder t p ≡ true → Order p
+  unfolding isOrder
+  order-has p h = record {
+    events = has-all (λ e. has e (memoryEvents t)) p (λ e m. event-has e (is e m));
+    each = has-all (λ e. has e p) (memoryEvents t)
+        (λ e m. counted-has e p (eqb-true (count e p) 1 (all-has (λ e. eqb (count e p) 1) (memoryEvents t) e (r .1) m)));
+    different = distinct-count p (λ e m. omega (arith, order-once p h e (is e m)));
+  }
+    where
+      r : (all (isMemoryEvent t) p ≡ true) × (all (λ e. eqb (count e p) 1) (memoryEvents t) ≡ true)
+      r = and-eq-true-iff (all (isMemoryEvent t) p) (all (λ e. eqb (count e p) 1) (memoryEvents t)) .0 h
+
+      is : (e : ℕ) → has e p ≡ true → isMemoryEvent t e ≡ true
+      is e m = all-has (isMemoryEvent t) p e (r .0) m
+
+  -- a list without its last entry has no entry twice, if it has none with it
+  distinct-closed : PrefixClosed distinct
+  distinct-closed p x h = distinct-left p (x ∷ []) h
+
+  -- each order is listed, if it isn't empty
+  order-listed : (p : List ℕ) → p ≢ [] → Order p → p ∈ orders t
+  unfolding orders memoryCount memoryEvents
+  order-listed p n o =
+      let short : length p ≤ length (memoryEvents t) = pigeonhole p (memoryEvents t) (o .different) (o .events) in
+      let long : length (memoryEvents t) ≤ length p = pigeonhole (memoryEvents t) p (kept-distinct (memory t) (t .count)) (o .each) in
+      keep-each (λ q. eqb (length q) (memoryCount t)) (listed distinct (memoryEvents t) (memoryCount t)) p
+      (listed-each distinct (memoryEvents t) (memoryCount t) p distinct-closed n (o .different) (o .events) short)
+      (eq-eqb (length p) (memoryCount t) (omega arith))
+
+  -- only nonempty lists are listed as orders
+  orders-nonempty : (p : List ℕ) → p ∈ orders t → p ≢ []
+  unfolding orders
+  orders-nonempty p m =
+      let l = keep-only (λ q. eqb (length q) (memoryCount t)) (listed distinct (memoryEvents t) (memoryCount t)) p m in
+      listed-only distinct (memoryEvents t) (memoryCount t) p (l .0) .0
+
+  -- The list of witnesses, by which the worked cases speak, has the witnesses and no other list.
+  pub witnesses-each : (gmo : List ℕ) → (gmo ∈ witnesses t) ↔ ((gmo ≢ []) × (witness t gmo ≡ true))
+  unfolding witnesses
+  witnesses-each gmo = (
+    λ m. let r = keep-only (witness t) (orders t) gmo m in (orders-nonempty gmo (r .0), r .1),
+    λ h. keep-each (witness t) (orders t) gmo (order-listed gmo (h .0) (order-has gmo (witness-order gmo (h .1) .0))) (h .1),
+  )
+
+  -- The empty order is none, where there is a memory event (line 11).
+  pub witnesses-exactly : (gmo : List ℕ) → some (t .count) (memory t) ≡ true → (gmo ∈ witnesses t) ↔ (witness t gmo ≡ true)
+  witnesses-exactly gmo s = (
+    λ m. witnesses-each gmo .0 m .1,
+    λ h. witnesses-each gmo .1 (witness-nonempty gmo s h, h),
   )

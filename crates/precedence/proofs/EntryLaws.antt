@@ -11,10 +11,8 @@ use Rattle.lists.specs.Lists.{all, has, kept, keep, count, distinct, before}
 use Rattle.lists.proofs.BoolLaws.{and-l, and-r, bool-ext, or-implied}
 use Rattle.lists.proofs.ListLaws.{all-has}
 use Rattle.lists.proofs.MemberLaws.{has-later, has-all, has-append, below-has}
-use Rattle.lists.proofs.DistinctLaws.{distinct-first}
+use Rattle.lists.proofs.DistinctLaws.{distinct-first, count-none}
 use Rattle.lists.proofs.SomeLaws.{every-at, at-every}
-use Rattle.prefixes.specs.Statements.{Rising}
-use Rattle.prefixes.proofs.ListedLaws.{rising-keep}
 
 -- what is kept has the numbers of the list that pass
 keep-is : (f : ℕ → Bool) (l : List ℕ) (x : ℕ) → has x (keep f l) ≡ (has x l && f x)
@@ -59,23 +57,6 @@ module _ (f : ℕ → Bool) (n : ℕ) where
       let r : (ltb x n && f x) ≡ true = sym (kept-has x) ∙ m in
       rw (and-r (ltb x n) (f x) r) at (every-at n (λ x. not (f x) || g x) x h (ltb-true x n (and-l (ltb x n) (f x) r)))))
 
--- a number that is less than every entry is none of them
-above-none : (x : ℕ) (l : List ℕ) → all (ltb x) l ≡ true → has x l ≡ false
-above-none x l h = go (has x l) refl
-  where
-    go : (b : Bool) → has x l ≡ b → b ≡ false
-    go true m = absurd (omega (arith, ltb-true x x (all-has (ltb x) l x h m)))
-    go false m = refl
-
--- a list that rises has no entry twice
-rising-distinct : (l : List ℕ) → Rising l → distinct l ≡ true
-rising-distinct [] r = refl
-rising-distinct (x ∷ l) r = rw (above-none x l (r .0)) (rising-distinct l (r .1))
-
--- nor has what is kept of the numbers below n
-pub kept-distinct : (f : ℕ → Bool) (n : ℕ) → distinct (keep f (below n)) ≡ true
-kept-distinct f n = rising-distinct (keep f (below n)) (rising-keep f n)
-
 -- tests that agree on the entries agree on the list
 pub all-same : (f g : ℕ → Bool) (l : List ℕ) → ((x : ℕ) → has x l ≡ true → f x ≡ g x) → all f l ≡ all g l
 all-same f g [] h = refl
@@ -114,24 +95,7 @@ module _ (x : ℕ) where
       regroup false true c d = sym (and-false c)
       regroup false false c d = refl
 
--- a number that is not in the list is not counted
-count-none : (x : ℕ) (l : List ℕ) → has x l ≡ false → count x l ≡ 0
-count-none x [] h = refl
-count-none x (y ∷ l) h = go (eqb x y) h (count-none x l)
-  where
-    go : (b : Bool) → (b || has x l) ≡ false → (has x l ≡ false → count x l ≡ 0) → cond b 1 0 + count x l ≡ 0
-    go true h later = absurd (true≢false h)
-    go false h later = omega (arith, later h)
-
--- one that is counted is in the list
-pub counted-has : (x : ℕ) (l : List ℕ) → count x l ≡ 1 → has x l ≡ true
-counted-has x l h = go (has x l) refl
-  where
-    go : (b : Bool) → has x l ≡ b → b ≡ true
-    go true e = refl
-    go false e = absurd (omega (arith, count-none x l e))
-
--- it is counted once, where none is there twice
+-- a number in the list is counted once, where none is there twice
 pub distinct-once : (x : ℕ) (l : List ℕ) → distinct l ≡ true → has x l ≡ true → count x l ≡ 1
 distinct-once x [] d h = absurd (false≢true h)
 distinct-once x (y ∷ l) d h = go (eqb x y) refl h (distinct-once x l (t .1))

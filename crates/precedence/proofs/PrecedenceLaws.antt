@@ -15,7 +15,7 @@ use Rattle.lists.specs.Lists.{all, has, keep, count, distinct, before}
 use Rattle.lists.proofs.BoolLaws.{and-l, and-r}
 use Rattle.lists.proofs.ListLaws.{all-has}
 use Rattle.lists.proofs.MemberLaws.{has-all}
-use Rattle.lists.proofs.DistinctLaws.{before-left, distinct-count, pigeonhole}
+use Rattle.lists.proofs.DistinctLaws.{before-left, counted-has, distinct-count, pigeonhole}
 use Rattle.lists.proofs.SomeLaws.{some-same}
 use Rattle.lists.proofs.FilledLaws.{getD-upTo}
 use Rattle.lists.proofs.AscendingLaws.{ascending-same}
@@ -24,6 +24,7 @@ use Rattle.masks.specs.MaskOf.{maskOf}
 use Rattle.masks.proofs.MaskOfLaws.{mask-has, mask-lt, mask-ones, mask-subset}
 use Rattle.table.specs.declared.Table.{Table}
 use Rattle.table.specs.Events.{memory, memoryEvents, memoryCount}
+use Rattle.prefixes.proofs.ListedLaws.{kept-distinct}
 use Rattle.model.specs.Rules.{staticPpo}
 use Rattle.model.specs.Witness.{isMemoryEvent, isOrder, lawful, witness}
 use Rattle.model.specs.Prefixes.{isPrefix, predecessorsListed, clean, cleanPrefixes}
@@ -32,8 +33,8 @@ use Rattle.successors.specs.CleanMasks.{slots, limit, ready, mayFollow, cleanFr
 use Rattle.ready_events.proofs.CleanLaws.{clean-snoc}
 use Rattle.engine.proofs.EngineLaws.{whole, masked-only, masked-each, masked-ascending}
 use Rattle.precedence.specs.Precedence.{predecessorMask, predecessorMasks, memoryMask}
-use Rattle.precedence.proofs.EntryLaws.{kept-has, kept-every, kept-distinct, all-same, all-last, before-last, distinct-last}
-use Rattle.precedence.proofs.EntryLaws.{counted-has, distinct-once}
+use Rattle.precedence.proofs.EntryLaws.{kept-has, kept-every, all-same, all-last, before-last, distinct-last}
+use Rattle.precedence.proofs.EntryLaws.{distinct-once}
 
 -- the tests of a list with one more entry are those of the list and those of the entry; where n holds, l is k, which does not see the entry
 regroup : (e x d n l k m : Bool) → (n ≡ true → l ≡ k) → ((e && x) && (d && n) && (l && m)) ≡ ((e && d && k) && (x && n && m))

@@ -10,6 +10,7 @@ use Rattle.lists.specs.Lists.{all, any, has, count, before}
 use Rattle.lists.proofs.BoolLaws.{and-l, and-r, and-right}
 use Rattle.lists.proofs.ListLaws.{all-has}
 use Rattle.lists.proofs.MemberLaws.{has-keep, below-has}
+use Rattle.lists.proofs.DistinctLaws.{counted-has}
 use Rattle.lists.proofs.SomeLaws.{some-same, every-at}
 use Rattle.table.specs.declared.Table.{Table}
 use Rattle.table.specs.Events.{reads, memory, memoryEvents, po}
@@ -19,7 +20,6 @@ use Rattle.model.specs.Axioms.{breaksPpo, preservedOrder, loadValue, atomicity,
 use Rattle.model.specs.Witness.{isMemoryEvent, isOrder, lawful, witness}
 use Rattle.model.specs.Prefixes.{isPrefix, predecessorsListed, clean}
 use Rattle.model.proofs.VerdictLaws.{returns-load-value}
-use Rattle.precedence.proofs.EntryLaws.{counted-has}
 use Rattle.witness_test.specs.ReturnedRules.{returnedPpo, breaksReturned}
 
 -- where no steady rule holds, the other three are left of the thirteen
