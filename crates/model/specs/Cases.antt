@@ -1,59 +1,13 @@
 -- "Litmus tests worked by hand": C1 to C10, and every fact that is stated of them. x, y are locations 0, 1, initially 0.
-use Prim.Native.Nat.{ℕ, _-_}
-use mathlib.Core.Path.{_≡_}
-use mathlib.Core.List.{List, [], _∷_, _++_}
-use lib.ListN.{length, replicate}
-use Rattle.edition.specs.declared.LocationNo.{LocationNo}
-use Rattle.table.specs.declared.Event.{Event}
+use Prim.Native.Nat.{ℕ}
+use mathlib.Core.List.{List, [], _∷_}
 use Rattle.table.specs.declared.Table.{Table}
-use Rattle.table.specs.Events.{load, store, amo, lr, sc, fence, noEvent, capacity}
-use Rattle.prefixes.specs.Answer.{Answer, found, noneLeft, spent}
-use Rattle.model.specs.Rules.{initially, nothing, ruleSet}
-use Rattle.model.specs.Verdict.{Verdict, allowed, brokenPpo, brokenAtomicity, verdict}
-use Rattle.model.specs.Prefixes.{search, witnesses}
-
-abbrev x : ℕ
-x = 0
-
-abbrev y : ℕ
-y = 1
-
--- an event of a kind, on a hart, at a location, with the values read and written
-abbrev access : (kind hart location read written : ℕ) → Event
-access k h l r w =
-    record { kind = k; hart = h; location = record { 0 = l }; flags = 0; addr = 0; «data» = 0; ctrl = 0; read = r; written = w; operation = 0; operand = 0 }
-
-abbrev loads : (hart location read : ℕ) → Event
-loads h l r = access load h l r 0
-
-abbrev stores : (hart location written : ℕ) → Event
-stores h l w = access store h l 0 w
-
--- a load with an address mask and a control mask
-abbrev dependentLoad : (hart location read addr ctrl : ℕ) → Event
-dependentLoad h l r a c =
-    record { kind = load; hart = h; location = record { 0 = l }; flags = 0; addr = a; «data» = 0; ctrl = c; read = r; written = 0; operation = 0; operand = 0 }
-
--- an event of a kind with an annotation
-abbrev annotated : (kind hart location flags read written : ℕ) → Event
-annotated k h l f r w =
-    record { kind = k; hart = h; location = record { 0 = l }; flags = f; addr = 0; «data» = 0; ctrl = 0; read = r; written = w; operation = 0; operand = 0 }
-
--- a fence of all four bits
-abbrev fullFence : ℕ → Event
-fullFence h =
-    record { kind = fence; hart = h; location = record { 0 = 0 }; flags = 15; addr = 0; «data» = 0; ctrl = 0; read = 0; written = 0; operation = 0; operand = 0 }
-
-abbrev padded : List Event → List Event
-padded es = es ++ replicate (capacity - length es) noEvent
-
--- a test with zero initial values; stated: the mask of final values, final: that of x
-abbrev test : (harts locations stated final : ℕ) → List Event → Table
-test h l s f es =
-    record { harts = h; locations = l; count = length es; stated = s; initial = replicate 8 0; events = padded es; finals = f ∷ replicate 7 0 }
-
-abbrev plainTest : (harts locations : ℕ) → List Event → Table
-plainTest h l es = test h l 0 0 es
+use Rattle.prefixes.specs.Answer.{found, noneLeft, spent}
+use Rattle.model.specs.Rules.{initially, nothing}
+use Rattle.model.specs.Verdict.{allowed, brokenPpo, brokenAtomicity}
+use Rattle.model.specs.Claims.{x, y, loads, stores, swaps, reserved, conditional, fullFence, flagged, addressOn, controlOn, event3}
+use Rattle.model.specs.Claims.{unannotated, acquireRCpc, acquireRCsc, releaseRCpc, releaseRCsc, plainTest, valued}
+use Rattle.model.specs.Claims.{Claim, allWitnesses, searched, judged, ruled}
 
 -- "C1: hart 0 stores x=1 (0), y=1 (1); hart 1 loads y reading 1 (2), x reading 0 (3)."
 abbrev pub c1 : Table
@@ -73,7 +27,7 @@ c4 r = plainTest 1 1 (stores 0 x 1 ∷ loads 0 x r ∷ [])
 
 -- "C5: AMO x reading 0 writing 1, then load reading 1."
 abbrev pub c5 : Table
-c5 = plainTest 1 1 (access amo 0 x 0 1 ∷ loads 0 x 1 ∷ [])
+c5 = plainTest 1 1 (swaps 0 x 0 1 ∷ loads 0 x 1 ∷ [])
 
 -- "C6: hart 0 stores x=1; hart 1 loads x reading 1, then 0."
 abbrev pub c6 : Table
@@ -81,19 +35,15 @@ c6 = plainTest 2 1 (stores 0 x 1 ∷ loads 1 x 1 ∷ loads 1 x 0 ∷ [])
 
 -- "C7: hart 0 LR x reading 0 (0), SC x=1 (1); hart 1 stores x=2 (2)." with the stated final value
 abbrev pub c7 : (final : ℕ) → Table
-c7 f = test 2 1 1 f (access lr 0 x 0 0 ∷ access sc 0 x 0 1 ∷ stores 1 x 2 ∷ [])
+c7 f = valued 2 1 1 [] (f ∷ []) (reserved 0 x 0 ∷ conditional 0 x 1 ∷ stores 1 x 2 ∷ [])
 
 -- "C8: LR x reading 0, store x=2, SC x=1, one hart, final 1"
 abbrev pub c8 : Table
-c8 = test 1 1 1 1 (access lr 0 x 0 0 ∷ stores 0 x 2 ∷ access sc 0 x 0 1 ∷ [])
+c8 = valued 1 1 1 [] (1 ∷ []) (reserved 0 x 0 ∷ stores 0 x 2 ∷ conditional 0 x 1 ∷ [])
 
 -- "C9: C1 with a full fence between the stores (so stores 0, 2; loads 3, 4)", load 4 with the masks given
 abbrev c9 : (addr ctrl : ℕ) → Table
-c9 a c = plainTest 2 2 (stores 0 x 1 ∷ fullFence 0 ∷ stores 0 y 1 ∷ loads 1 y 1 ∷ dependentLoad 1 x 0 a c ∷ [])
-
--- the mask that names event 3
-abbrev event3 : ℕ
-event3 = 8
+c9 a c = plainTest 2 2 (stores 0 x 1 ∷ fullFence 0 ∷ stores 0 y 1 ∷ loads 1 y 1 ∷ addressOn a (controlOn c (loads 1 x 0)) ∷ [])
 
 -- "load 4 control-dependent on 3"
 abbrev pub c9control : Table
@@ -107,58 +57,24 @@ c9address = c9 event3 0
 abbrev pub c10 : Table
 c10 = plainTest 1 1 (loads 0 x 0 ∷ [])
 
--- the flags of one annotation alone, or of none
-abbrev pub unannotated : ℕ
-unannotated = 0
-
-abbrev acquireRCpc : ℕ
-acquireRCpc = 1
-
-abbrev acquireRCsc : ℕ
-acquireRCsc = 2
-
-abbrev pub releaseRCpc : ℕ
-releaseRCpc = 4
-
-abbrev pub releaseRCsc : ℕ
-releaseRCsc = 8
-
 -- an AMO with release-RCpc alone: hart 0 stores x=1 (0), AMO y reading 0 writing 1 (1) with the flags given; hart 1 loads y
 -- reading 1 (2) with acquire-RCpc, x reading 0 (3)
 abbrev pub amoPasses : (flags : ℕ) → Table
-amoPasses f = plainTest 2 2 (stores 0 x 1 ∷ annotated amo 0 y f 0 1 ∷ annotated load 1 y acquireRCpc 1 0 ∷ loads 1 x 0 ∷ [])
+amoPasses f = plainTest 2 2 (stores 0 x 1 ∷ flagged f (swaps 0 y 0 1) ∷ flagged acquireRCpc (loads 1 y 1) ∷ loads 1 x 0 ∷ [])
 
 -- an AMO with release-RCsc alone: hart 0 AMO x reading 0 writing 1 (0) with the flags given, loads y reading 0 (1) with
 -- acquire-RCsc; hart 1 AMO y (2) and loads x (3) likewise
 abbrev pub amoStores : (flags : ℕ) → Table
 amoStores f =
     plainTest 2 2
-    (annotated amo 0 x f 0 1 ∷ annotated load 0 y acquireRCsc 0 0 ∷ annotated amo 1 y f 0 1 ∷ annotated load 1 x acquireRCsc 0 0 ∷ [])
-
--- What is stated of a case: all its witnesses; a search's answer from a start with an allowance; the verdict for a
--- candidate (returned list, order); the set of rules of a pair with a returned list.
-pub data Claim : Type 0 where
-  allWitnesses : Table → List (List ℕ) → Claim
-  searched : Table → List ℕ → ℕ → Answer → Claim
-  judged : Table → List ℕ → List ℕ → Verdict → Claim
-  ruled : Table → List ℕ → ℕ → ℕ → List ℕ → Claim
-
-abbrev pub Right : Claim → Type 0
-Right (allWitnesses t ws) = witnesses t ≡ ws
-Right (searched t s b r) = search t s b ≡ r
-Right (judged t rf gmo v) = verdict t rf gmo ≡ v
-Right (ruled t rf a b ks) = ruleSet t rf a b ≡ ks
-
-abbrev pub Every : List Claim → Type 0
-Every [] = Unit {0}
-Every (c ∷ cs) = Right c × Every cs
+    (flagged f (swaps 0 x 0 1) ∷ flagged acquireRCsc (loads 0 y 0) ∷ flagged f (swaps 1 y 0 1) ∷ flagged acquireRCsc (loads 1 x 0) ∷ [])
 
 -- an allowance that no case uses up
 abbrev ample : ℕ
 ample = 1000000
 
-abbrev pub worked : List Claim
-worked =
+abbrev pub litmusCases : List Claim
+litmusCases =
     -- "Witnesses: 1230, 1302, 1320, 3012, 3102, 3120. First: 27 visited. After 3120: none left, 5 visited."
     allWitnesses c1
     ((1 ∷ 2 ∷ 3 ∷ 0 ∷ []) ∷ (1 ∷ 3 ∷ 0 ∷ 2 ∷ []) ∷ (1 ∷ 3 ∷ 2 ∷ 0 ∷ []) ∷ (3 ∷ 0 ∷ 1 ∷ 2 ∷ []) ∷ (3 ∷ 1 ∷ 0 ∷ 2 ∷ [])

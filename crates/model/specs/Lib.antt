@@ -6,4 +6,9 @@ pub mod Verdict
 pub mod Says
 pub mod Prefixes
 pub mod Computes
+pub mod Claims
 pub mod Cases
+pub mod RuleCases
+pub mod AxiomCases
+pub mod LineCases
+pub mod Worked

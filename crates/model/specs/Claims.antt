@@ -1,0 +1,251 @@
+-- Worked cases: events and tables in few words, and what can be stated of them. x, y, z, v are locations 0 to 3.
+use Prim.Native.Nat.{ℕ, _-_}
+use mathlib.Core.Path.{_≡_}
+use mathlib.Core.Bool.{Bool, true, false, cond}
+use mathlib.Core.List.{List, [], _∷_, _++_}
+use lib.ListN.{length, replicate}
+use Rattle.lists.specs.Below.{below}
+use Rattle.lists.specs.Lists.{kept}
+use Rattle.edition.specs.Limits.{maxLocations}
+use Rattle.edition.specs.declared.LocationNo.{LocationNo}
+use Rattle.table.specs.declared.Event.{Event}
+use Rattle.table.specs.declared.Table.{Table}
+use Rattle.table.specs.Events.{load, store, amo, lr, sc, fence, fencetso, noEvent, capacity}
+use Rattle.refusals.specs.Lines.{Refused, accepted, firstLine}
+use Rattle.refusals.specs.TableLines.{tableLines}
+use Rattle.prefixes.specs.Answer.{Answer}
+use Rattle.model.specs.Rules.{ppo, staticPpo, ruleSet}
+use Rattle.model.specs.Returns.{returns}
+use Rattle.model.specs.Axioms.{breaksAtomicity, atomicityWriter}
+use Rattle.model.specs.Witness.{isOrder, lawful, witness}
+use Rattle.model.specs.Verdict.{Verdict, verdict}
+use Rattle.model.specs.Prefixes.{clean, cleanPrefixes, search, witnesses}
+
+abbrev pub x : ℕ
+x = 0
+
+abbrev pub y : ℕ
+y = 1
+
+abbrev pub z : ℕ
+z = 2
+
+abbrev pub v : ℕ
+v = 3
+
+-- an event of a kind, on a hart, at a location, with the values read and written
+abbrev pub access : (kind hart location read written : ℕ) → Event
+access k h l r w =
+    record { kind = k; hart = h; location = record { 0 = l }; flags = 0; addr = 0; «data» = 0; ctrl = 0; read = r; written = w; operation = 0; operand = 0 }
+
+abbrev pub loads : (hart location read : ℕ) → Event
+loads h l r = access load h l r 0
+
+abbrev pub stores : (hart location written : ℕ) → Event
+stores h l w = access store h l 0 w
+
+-- an AMO
+abbrev pub swaps : (hart location read written : ℕ) → Event
+swaps h l r w = access amo h l r w
+
+-- an LR
+abbrev pub reserved : (hart location read : ℕ) → Event
+reserved h l r = access lr h l r 0
+
+-- an SC
+abbrev pub conditional : (hart location written : ℕ) → Event
+conditional h l w = access sc h l 0 w
+
+-- the event with these flags
+abbrev pub flagged : ℕ → Event → Event
+flagged f e =
+    record { kind = e .kind; hart = e .hart; location = e .location; flags = f; addr = e .addr; «data» = e .«data»; ctrl = e .ctrl; read = e .read; written = e .written; operation = e .operation; operand = e .operand }
+
+-- the event with this address mask
+abbrev pub addressOn : ℕ → Event → Event
+addressOn m e =
+    record { kind = e .kind; hart = e .hart; location = e .location; flags = e .flags; addr = m; «data» = e .«data»; ctrl = e .ctrl; read = e .read; written = e .written; operation = e .operation; operand = e .operand }
+
+-- with this data mask
+abbrev pub dataOn : ℕ → Event → Event
+dataOn m e =
+    record { kind = e .kind; hart = e .hart; location = e .location; flags = e .flags; addr = e .addr; «data» = m; ctrl = e .ctrl; read = e .read; written = e .written; operation = e .operation; operand = e .operand }
+
+-- with this control mask
+abbrev pub controlOn : ℕ → Event → Event
+controlOn m e =
+    record { kind = e .kind; hart = e .hart; location = e .location; flags = e .flags; addr = e .addr; «data» = e .«data»; ctrl = m; read = e .read; written = e .written; operation = e .operation; operand = e .operand }
+
+-- with this operation and operand
+abbrev pub operated : (operation operand : ℕ) → Event → Event
+operated o n e =
+    record { kind = e .kind; hart = e .hart; location = e .location; flags = e .flags; addr = e .addr; «data» = e .«data»; ctrl = e .ctrl; read = e .read; written = e .written; operation = o; operand = n }
+
+-- a fence with these bits; fence.tso
+abbrev pub fences : (hart bits : ℕ) → Event
+fences h f = flagged f (access fence h 0 0 0)
+
+abbrev pub fencesTso : (hart : ℕ) → Event
+fencesTso h = access fencetso h 0 0 0
+
+-- a fence of all four bits
+abbrev pub fullFence : ℕ → Event
+fullFence h = fences h 15
+
+-- the masks that name one event
+abbrev pub event0 : ℕ
+event0 = 1
+
+abbrev pub event1 : ℕ
+event1 = 2
+
+abbrev pub event2 : ℕ
+event2 = 4
+
+abbrev pub event3 : ℕ
+event3 = 8
+
+-- the flags of one annotation alone, or of none
+abbrev pub unannotated : ℕ
+unannotated = 0
+
+abbrev pub acquireRCpc : ℕ
+acquireRCpc = 1
+
+abbrev pub acquireRCsc : ℕ
+acquireRCsc = 2
+
+abbrev pub releaseRCpc : ℕ
+releaseRCpc = 4
+
+abbrev pub releaseRCsc : ℕ
+releaseRCsc = 8
+
+-- a list with what follows, up to n entries
+abbrev pub filled : {A : Type 0} → ℕ → A → List A → List A
+filled n d l = l ++ replicate (n - length l) d
+
+-- a test: stated is the mask of final values; values not given are 0
+abbrev pub valued : (harts locations stated : ℕ) (initial finals : List ℕ) → List Event → Table
+valued h l s i f es =
+    record {
+      harts = h;
+      locations = l;
+      count = length es;
+      stated = s;
+      initial = filled maxLocations 0 i;
+      events = filled capacity noEvent es;
+      finals = filled maxLocations 0 f;
+    }
+
+-- a test with zero initial values and no stated final value
+abbrev pub plainTest : (harts locations : ℕ) → List Event → Table
+plainTest h l es = valued h l 0 [] [] es
+
+-- a pair that preserved order orders, with the set of its rules: a steady one is among them, or none is
+pub data Ordered : Type 0 where
+  steadySet : (a b : ℕ) → List ℕ → Ordered
+  returnedSet : (a b : ℕ) → List ℕ → Ordered
+
+-- by one rule alone, which is steady; or which isn't
+abbrev pub steady : (rule a b : ℕ) → Ordered
+steady k a b = steadySet a b (k ∷ [])
+
+abbrev pub returned : (rule a b : ℕ) → Ordered
+returned k a b = returnedSet a b (k ∷ [])
+
+abbrev pub orderedPair : Table → List ℕ → (a b : ℕ) → Ordered
+orderedPair t rf a b = cond (staticPpo t a b) (steadySet a b (ruleSet t rf a b)) (returnedSet a b (ruleSet t rf a b))
+
+-- the pairs of a with each of the list
+abbrev pub pairsOf : Table → List ℕ → ℕ → List ℕ → List Ordered
+pairsOf t rf a [] = []
+pairsOf t rf a (b ∷ bs) = kept (ppo t rf a b) (orderedPair t rf a b) (pairsOf t rf a bs)
+
+abbrev pub pairsFrom : Table → List ℕ → List ℕ → List Ordered
+pairsFrom t rf [] = []
+pairsFrom t rf (a ∷ l) = pairsOf t rf a (below (t .count)) ++ pairsFrom t rf l
+
+-- all pairs that preserved order orders, by a and then by b
+abbrev pub orderedPairs : Table → List ℕ → List Ordered
+orderedPairs t rf = pairsFrom t rf (below (t .count))
+
+-- the writer that an atomicity break at the LR names; none if it doesn't break there
+abbrev pub namedWriter : Table → List ℕ → List ℕ → ℕ → List ℕ
+namedWriter t rf gmo l = kept (breaksAtomicity t rf gmo l) (atomicityWriter t rf gmo l) []
+
+-- the refusal of a table by lines 5 to 11; extra: a byte that is no field and is named zero isn't
+abbrev pub refusal : Bool → Table → Refused
+refusal extra t = firstLine (t .count) (tableLines extra t)
+
+-- What is stated of a case.
+pub data Claim : Type 0 where
+  -- all witnesses, ascending
+  allWitnesses : Table → List (List ℕ) → Claim
+  -- a search's answer from a start with an allowance
+  searched : Table → (start : List ℕ) → (allowance : ℕ) → Answer → Claim
+  -- the verdict for a candidate
+  judged : Table → (rf gmo : List ℕ) → Verdict → Claim
+  -- the set of rules of a pair with a returned list
+  ruled : Table → (rf : List ℕ) → (a b : ℕ) → List ℕ → Claim
+  -- all that preserved order orders, with a returned list
+  preserved : Table → (rf : List ℕ) → List Ordered → Claim
+  -- the returned list that an order determines
+  returning : Table → (gmo rf : List ℕ) → Claim
+  -- the writer that an atomicity break at the LR l names, if there is one
+  atomicityAt : Table → (rf gmo : List ℕ) → (l : ℕ) → List ℕ → Claim
+  -- a list is an order, lawful, a witness: each or not
+  weighed : Table → List ℕ → (isOrder isLawful isWitness : Bool) → Claim
+  -- a list is a clean prefix, or not
+  cleanly : Table → List ℕ → Bool → Claim
+  -- all clean prefixes, ascending
+  allClean : Table → List (List ℕ) → Claim
+  -- lines 5 to 11 accept each of these tables
+  acceptsAll : List Table → Claim
+  -- lines 5 to 11 refuse each of these tables, by this
+  refusesAll : Refused → List Table → Claim
+  -- the refusal if, besides, a byte that is no field and is named zero isn't
+  refusesWithBytes : Refused → Table → Claim
+
+abbrev pub refusals : Bool → List Table → List Refused
+refusals extra [] = []
+refusals extra (t ∷ ts) = refusal extra t ∷ refusals extra ts
+
+abbrev pub Right : Claim → Type 0
+Right (allWitnesses t ws) = witnesses t ≡ ws
+Right (searched t s b r) = search t s b ≡ r
+Right (judged t rf gmo v) = verdict t rf gmo ≡ v
+Right (ruled t rf a b ks) = ruleSet t rf a b ≡ ks
+Right (preserved t rf ps) = orderedPairs t rf ≡ ps
+Right (returning t gmo rf) = returns t gmo ≡ rf
+Right (atomicityAt t rf gmo l ws) = namedWriter t rf gmo l ≡ ws
+Right (weighed t gmo o l w) = (isOrder t gmo ∷ lawful t gmo ∷ witness t gmo ∷ []) ≡ (o ∷ l ∷ w ∷ [])
+Right (cleanly t p c) = clean t p ≡ c
+Right (allClean t ps) = cleanPrefixes t ≡ ps
+Right (acceptsAll ts) = refusals false ts ≡ replicate (length ts) accepted
+Right (refusesAll r ts) = refusals false ts ≡ replicate (length ts) r
+Right (refusesWithBytes r t) = refusal true t ≡ r
+
+-- lines 5 to 11 accept the table
+abbrev pub Passes : Table → Type 0
+Passes t = refusal false t ≡ accepted
+
+-- the table of a case passes, unless it is there to be refused
+abbrev pub Accepted : Claim → Type 0
+Accepted (allWitnesses t ws) = Passes t
+Accepted (searched t s b r) = Passes t
+Accepted (judged t rf gmo v) = Passes t
+Accepted (ruled t rf a b ks) = Passes t
+Accepted (preserved t rf ps) = Passes t
+Accepted (returning t gmo rf) = Passes t
+Accepted (atomicityAt t rf gmo l ws) = Passes t
+Accepted (weighed t gmo o l w) = Passes t
+Accepted (cleanly t p c) = Passes t
+Accepted (allClean t ps) = Passes t
+Accepted (acceptsAll ts) = Unit {0}
+Accepted (refusesAll r ts) = Unit {0}
+Accepted (refusesWithBytes r t) = Unit {0}
+
+abbrev pub Every : List Claim → Type 0
+Every [] = Unit {0}
+Every (c ∷ cs) = Accepted c × Right c × Every cs

@@ -1,0 +1,265 @@
+-- "When the bench declines a table": lines 5 to 11, each clause for each kind, with what is accepted beside it.
+use Prim.Native.Nat.{ℕ, _+_, _^_}
+use mathlib.Core.List.{List, [], _∷_, _++_}
+use lib.ListN.{replicate}
+use Rattle.edition.specs.Limits.{maxLocations}
+use Rattle.edition.specs.declared.LocationNo.{LocationNo}
+use Rattle.table.specs.declared.Event.{Event}
+use Rattle.table.specs.declared.Table.{Table}
+use Rattle.table.specs.Events.{load, store, amo, lr, sc, fence, fencetso, noEvent, capacity}
+use Rattle.operation.specs.Operation.{noOperation, amoadd, amoand, amoor, amoxor, amomaxu, amominu}
+use Rattle.refusals.specs.Lines.{byLine, byRecord}
+use Rattle.model.specs.Claims.{x, y, z, access, loads, stores, swaps, reserved, conditional, fences, fullFence, fencesTso}
+use Rattle.model.specs.Claims.{flagged, addressOn, dataOn, controlOn, operated, event0, event1, event2, event3}
+use Rattle.model.specs.Claims.{acquireRCpc, acquireRCsc, releaseRCpc, releaseRCsc, filled, plainTest, valued}
+use Rattle.model.specs.Claims.{Claim, acceptsAll, refusesAll, refusesWithBytes}
+
+-- two harts, two locations
+abbrev program : List Event → Table
+program es = plainTest 2 2 es
+
+-- one event alone
+abbrev alone : Event → Table
+alone e = program (e ∷ [])
+
+-- a load before it
+abbrev second : Event → Table
+second e = program (loads 0 x 0 ∷ e ∷ [])
+
+-- an LR before it
+abbrev secondOfPair : Event → Table
+secondOfPair e = program (reserved 0 x 0 ∷ e ∷ [])
+
+-- so many harts and locations, this mask of final values
+abbrev headed : (harts locations stated : ℕ) → Table
+headed h l s = valued h l s [] [] (loads 0 x 0 ∷ [])
+
+-- "harts, locations or events out of range, or the final mask names a location not in the test"
+abbrev pub line5Cases : List Claim
+line5Cases =
+    -- "16 events pass, 17 refuse by 5."
+    acceptsAll (plainTest 1 1 (replicate 16 (loads 0 x 0)) ∷ headed 1 1 0 ∷ headed 4 8 0 ∷ [])
+    ∷ refusesAll (byLine 5) (plainTest 1 1 (replicate 17 (loads 0 x 0)) ∷ plainTest 1 1 [] ∷ [])
+    ∷ refusesAll (byLine 5) (headed 0 1 0 ∷ headed 5 1 0 ∷ headed 1 0 0 ∷ headed 1 9 0 ∷ [])
+    -- the mask: bit k names location k
+    ∷ acceptsAll (headed 1 1 1 ∷ headed 1 2 2 ∷ headed 1 8 128 ∷ headed 1 8 255 ∷ [])
+    ∷ refusesAll (byLine 5) (headed 1 1 2 ∷ headed 1 2 4 ∷ headed 1 7 128 ∷ headed 1 1 255 ∷ [])
+    ∷ []
+
+-- slot 1 past the one event
+abbrev past : Event → Table
+past e =
+    record {
+      harts = 1;
+      locations = 1;
+      count = 1;
+      stated = 0;
+      initial = replicate maxLocations 0;
+      events = filled capacity noEvent (loads 0 x 0 ∷ e ∷ []);
+      finals = replicate maxLocations 0;
+    }
+
+-- the last slot
+abbrev pastAll : Event → Table
+pastAll e =
+    record {
+      harts = 1;
+      locations = 1;
+      count = 1;
+      stated = 0;
+      initial = replicate maxLocations 0;
+      events = filled 31 noEvent (loads 0 x 0 ∷ []) ++ (e ∷ []);
+      finals = replicate maxLocations 0;
+    }
+
+-- "initial values of locations not in the test, final values not stated, records past the events"
+abbrev pub line6Cases : List Claim
+line6Cases =
+    acceptsAll (valued 1 1 0 (5 ∷ []) [] (loads 0 x 0 ∷ []) ∷ valued 1 8 0 (replicate 8 5) [] (loads 0 x 0 ∷ []) ∷ [])
+    ∷ refusesAll (byLine 6) (valued 1 1 0 (0 ∷ 5 ∷ []) [] (loads 0 x 0 ∷ []) ∷ valued 1 7 0 (replicate 8 5) [] (loads 0 x 0 ∷ []) ∷ [])
+    -- a final value that isn't stated, also of a location in the test
+    ∷ acceptsAll (valued 1 2 1 [] (5 ∷ []) (loads 0 x 0 ∷ []) ∷ valued 1 2 2 [] (0 ∷ 5 ∷ []) (loads 0 x 0 ∷ []) ∷ valued 1 8 128 [] (0 ∷ 0 ∷ 0 ∷ 0 ∷ 0 ∷ 0 ∷ 0 ∷ 5 ∷ []) (loads 0 x 0 ∷ []) ∷ [])
+    ∷ refusesAll (byLine 6) (valued 1 2 0 [] (5 ∷ []) (loads 0 x 0 ∷ []) ∷ valued 1 2 1 [] (0 ∷ 5 ∷ []) (loads 0 x 0 ∷ []) ∷ valued 1 2 2 [] (5 ∷ []) (loads 0 x 0 ∷ [])
+    ∷ valued 1 8 0 [] (0 ∷ 0 ∷ 0 ∷ 0 ∷ 0 ∷ 0 ∷ 0 ∷ 5 ∷ []) (loads 0 x 0 ∷ []) ∷ [])
+    -- each field of a record past the events
+    ∷ acceptsAll (past noEvent ∷ pastAll noEvent ∷ [])
+    ∷ refusesAll (byLine 6) (past (access 1 0 0 0 0) ∷ past (access 0 1 0 0 0) ∷ past (access 0 0 1 0 0) ∷ past (access 0 0 0 1 0) ∷ past (access 0 0 0 0 1)
+    ∷ past (flagged 1 noEvent) ∷ past (addressOn 1 noEvent) ∷ past (dataOn 1 noEvent) ∷ past (controlOn 1 noEvent)
+    ∷ past (operated 1 0 noEvent) ∷ past (operated 0 1 noEvent) ∷ pastAll (loads 0 x 0) ∷ [])
+    -- bytes that are no field
+    ∷ refusesWithBytes (byLine 6) (headed 1 1 0)
+    ∷ refusesWithBytes (byLine 5) (headed 0 1 0)
+    ∷ []
+
+-- an AMO with an operation, the value read, the operand and the value written
+abbrev operates : (operation read operand written : ℕ) → Table
+operates o r n w = alone (operated o n (swaps 0 x r w))
+
+-- "kind, hart, location or flags out of range; a non-reader with a value read or a non-writer with a value written that isn't zero;
+-- a fence with location or mask not zero; flags on fence.tso"
+abbrev pub line7Cases : List Claim
+line7Cases =
+    -- each kind, on the last hart and at the last location
+    acceptsAll (alone (loads 1 y 5) ∷ alone (stores 1 y 5) ∷ alone (swaps 1 y 5 6) ∷ alone (reserved 1 y 5)
+    ∷ program (reserved 1 y 0 ∷ conditional 1 y 5 ∷ []) ∷ second (fences 1 15) ∷ second (fences 0 0) ∷ second (fencesTso 1) ∷ [])
+    -- kind
+    ∷ refusesAll (byRecord 7 0) (alone (access 0 0 0 0 0) ∷ alone (access 8 0 0 0 0) ∷ alone (access 255 0 0 0 0) ∷ [])
+    -- hart
+    ∷ refusesAll (byRecord 7 1) (second (loads 2 x 0) ∷ second (stores 2 x 1) ∷ second (swaps 2 x 0 1) ∷ second (reserved 2 x 0)
+    ∷ secondOfPair (conditional 2 x 1) ∷ second (fences 2 0) ∷ second (fencesTso 2) ∷ [])
+    -- location
+    ∷ refusesAll (byRecord 7 1) (second (loads 0 2 0) ∷ second (stores 0 2 1) ∷ second (swaps 0 2 0 1) ∷ second (reserved 0 2 0)
+    ∷ secondOfPair (conditional 0 2 1) ∷ [])
+    -- flags
+    ∷ refusesAll (byRecord 7 1) (second (flagged 16 (loads 0 x 0)) ∷ second (flagged 16 (stores 0 x 1)) ∷ second (flagged 16 (swaps 0 x 0 1))
+    ∷ second (flagged 16 (reserved 0 x 0)) ∷ secondOfPair (flagged 16 (conditional 0 x 1)) ∷ second (fences 0 16) ∷ second (flagged 16 (fencesTso 0)) ∷ [])
+    -- a non-reader with a value read
+    ∷ refusesAll (byRecord 7 1) (second (access store 0 x 1 1) ∷ secondOfPair (access sc 0 x 1 1) ∷ second (access fence 0 0 1 0) ∷ second (access fencetso 0 0 1 0) ∷ [])
+    -- a non-writer with a value written
+    ∷ refusesAll (byRecord 7 1) (second (access load 0 x 0 1) ∷ second (access lr 0 x 0 1) ∷ second (access fence 0 0 0 1) ∷ second (access fencetso 0 0 0 1) ∷ [])
+    -- a fence with location or mask; flags on fence.tso
+    ∷ refusesAll (byRecord 7 1) (second (access fence 0 y 0 0) ∷ second (access fencetso 0 y 0 0)
+    ∷ second (addressOn event0 (fullFence 0)) ∷ second (dataOn event0 (fullFence 0)) ∷ second (controlOn event0 (fullFence 0))
+    ∷ second (addressOn event0 (fencesTso 0)) ∷ second (dataOn event0 (fencesTso 0)) ∷ second (controlOn event0 (fencesTso 0)) ∷ [])
+    ∷ refusesAll (byRecord 7 1) (second (flagged 1 (fencesTso 0)) ∷ second (flagged 8 (fencesTso 0)) ∷ second (flagged 15 (fencesTso 0)) ∷ [])
+    -- "Only an AMO may have an operation": here the written value, 0, is that of the operation
+    ∷ refusesAll (byRecord 7 1) (second (operated amoadd 0 (loads 0 x 0)) ∷ second (operated amoadd 0 (stores 0 x 0)) ∷ second (operated amoadd 0 (reserved 0 x 0))
+    ∷ secondOfPair (operated amoadd 0 (conditional 0 x 0)) ∷ second (operated amoadd 0 (fullFence 0)) ∷ second (operated amoadd 0 (fencesTso 0)) ∷ [])
+    -- operations go to 6
+    ∷ refusesAll (byRecord 7 0) (operates 7 0 0 0 ∷ operates 255 0 0 0 ∷ [])
+    -- "0 none (the written value is as stated, operand 0)"
+    ∷ acceptsAll (operates noOperation 12 0 99 ∷ [])
+    ∷ refusesAll (byRecord 7 1) (second (operated 0 1 (swaps 0 x 0 1)) ∷ second (operated 0 1 (loads 0 x 0)) ∷ second (operated 0 1 (stores 0 x 1))
+    ∷ second (operated 0 1 (reserved 0 x 0)) ∷ secondOfPair (operated 0 1 (conditional 0 x 1)) ∷ second (operated 0 1 (fullFence 0))
+    ∷ second (operated 0 1 (fencesTso 0)) ∷ [])
+    -- "the written value must be the operation applied to the value read"
+    ∷ acceptsAll (operates amoadd 12 10 22 ∷ operates amoand 12 10 8 ∷ operates amoor 12 10 14 ∷ operates amoxor 12 10 6 ∷ operates amomaxu 12 10 12
+    ∷ operates amominu 12 10 10 ∷ operates amomaxu 10 12 12 ∷ operates amominu 10 12 10 ∷ operates amoadd 65535 1 0 ∷ [])
+    ∷ refusesAll (byRecord 7 0) (operates amoadd 12 10 2 ∷ operates amoand 12 10 14 ∷ operates amoor 12 10 8 ∷ operates amoxor 12 10 14 ∷ operates amomaxu 12 10 10
+    ∷ operates amominu 12 10 12 ∷ operates amomaxu 10 12 10 ∷ operates amominu 10 12 12 ∷ operates amoadd 65535 1 65535 ∷ [])
+    ∷ []
+
+-- "both acquires or both releases at once; a reader with release and no acquire; a plain store or SC with acquire and no release";
+-- the second clause "now speaks of loads and LRs only, and an AMO may carry either annotation alone"
+abbrev pub line8Cases : List Claim
+line8Cases =
+    -- both acquires
+    refusesAll (byRecord 8 1) (second (flagged (acquireRCpc + acquireRCsc) (loads 0 x 0)) ∷ second (flagged (acquireRCpc + acquireRCsc) (swaps 0 x 0 1))
+    ∷ second (flagged (acquireRCpc + acquireRCsc) (reserved 0 x 0)) ∷ second (flagged (acquireRCpc + acquireRCsc + releaseRCpc) (stores 0 x 1))
+    ∷ secondOfPair (flagged (acquireRCpc + acquireRCsc + releaseRCpc) (conditional 0 x 1)) ∷ [])
+    -- both releases
+    ∷ refusesAll (byRecord 8 1) (second (flagged (releaseRCpc + releaseRCsc) (stores 0 x 1)) ∷ second (flagged (releaseRCpc + releaseRCsc) (swaps 0 x 0 1))
+    ∷ secondOfPair (flagged (releaseRCpc + releaseRCsc) (conditional 0 x 1)) ∷ second (flagged (acquireRCpc + releaseRCpc + releaseRCsc) (loads 0 x 0))
+    ∷ second (flagged (acquireRCpc + releaseRCpc + releaseRCsc) (reserved 0 x 0)) ∷ [])
+    -- a load or LR with release and no acquire; with both it passes, and with an acquire alone
+    ∷ refusesAll (byRecord 8 1) (second (flagged releaseRCpc (loads 0 x 0)) ∷ second (flagged releaseRCsc (loads 0 x 0))
+    ∷ second (flagged releaseRCpc (reserved 0 x 0)) ∷ second (flagged releaseRCsc (reserved 0 x 0)) ∷ [])
+    ∷ acceptsAll (second (flagged (acquireRCpc + releaseRCpc) (loads 0 x 0)) ∷ second (flagged (acquireRCsc + releaseRCsc) (reserved 0 x 0))
+    ∷ second (flagged (acquireRCsc + releaseRCpc) (loads 0 x 0)) ∷ second (flagged (acquireRCpc + releaseRCsc) (loads 0 x 0))
+    ∷ second (flagged acquireRCpc (loads 0 x 0)) ∷ second (flagged acquireRCsc (loads 0 x 0)) ∷ second (flagged acquireRCpc (reserved 0 x 0)) ∷ [])
+    -- a plain store or SC with acquire and no release; with both it passes, and with a release alone
+    ∷ refusesAll (byRecord 8 1) (second (flagged acquireRCpc (stores 0 x 1)) ∷ second (flagged acquireRCsc (stores 0 x 1))
+    ∷ secondOfPair (flagged acquireRCpc (conditional 0 x 1)) ∷ secondOfPair (flagged acquireRCsc (conditional 0 x 1)) ∷ [])
+    ∷ acceptsAll (second (flagged (acquireRCpc + releaseRCpc) (stores 0 x 1)) ∷ second (flagged (acquireRCsc + releaseRCsc) (stores 0 x 1))
+    ∷ secondOfPair (flagged (acquireRCsc + releaseRCsc) (conditional 0 x 1)) ∷ second (flagged releaseRCpc (stores 0 x 1)) ∷ second (flagged releaseRCsc (stores 0 x 1))
+    ∷ secondOfPair (flagged releaseRCpc (conditional 0 x 1)) ∷ [])
+    -- an AMO with either alone, or one of each
+    ∷ acceptsAll (second (flagged acquireRCpc (swaps 0 x 0 1)) ∷ second (flagged acquireRCsc (swaps 0 x 0 1)) ∷ second (flagged releaseRCpc (swaps 0 x 0 1))
+    ∷ second (flagged releaseRCsc (swaps 0 x 0 1)) ∷ second (flagged (acquireRCsc + releaseRCsc) (swaps 0 x 0 1)) ∷ [])
+    -- a fence's bits are no annotations
+    ∷ acceptsAll (second (fences 0 3) ∷ second (fences 0 12) ∷ second (fences 0 15) ∷ [])
+    ∷ []
+
+-- load (0), a store with the control mask given (1), then the event given (2)
+abbrev controlled : Event → Table
+controlled e = program (loads 0 x 0 ∷ controlOn event0 (stores 0 y 1) ∷ e ∷ [])
+
+-- load (0), the event given (1), then a store without a control mask (2)
+abbrev uncontrolled : Event → Table
+uncontrolled e = program (loads 0 x 0 ∷ e ∷ stores 0 y 1 ∷ [])
+
+-- "a mask names an event that isn't earlier on the same hart, or is a plain store or a fence; a data mask on a non-writer; a
+-- control mask with a bit that some later memory event of that hart lacks"
+abbrev pub line9Cases : List Claim
+line9Cases =
+    -- each mask, and each kind that has one, may name an earlier load
+    acceptsAll (second (addressOn event0 (loads 0 y 0)) ∷ second (addressOn event0 (stores 0 y 1)) ∷ second (dataOn event0 (stores 0 y 1))
+    ∷ second (dataOn event0 (swaps 0 y 0 1)) ∷ program (loads 0 y 0 ∷ reserved 0 x 0 ∷ dataOn event0 (conditional 0 x 1) ∷ [])
+    ∷ second (controlOn event0 (loads 0 y 0)) ∷ second (controlOn event0 (stores 0 y 1)) ∷ [])
+    -- or an AMO, an LR, an SC
+    ∷ acceptsAll (program (swaps 0 x 0 1 ∷ addressOn event0 (loads 0 y 0) ∷ []) ∷ secondOfPair (addressOn event0 (loads 0 y 0))
+    ∷ program (reserved 0 x 0 ∷ conditional 0 x 1 ∷ addressOn event1 (loads 0 y 0) ∷ []) ∷ [])
+    -- itself, by each mask
+    ∷ refusesAll (byRecord 9 1) (second (addressOn event1 (loads 0 y 0)) ∷ second (dataOn event1 (swaps 0 y 0 1)) ∷ second (controlOn event1 (loads 0 y 0)) ∷ [])
+    -- a later event; another hart's; a number past the events
+    ∷ refusesAll (byRecord 9 0) (program (addressOn event1 (loads 0 x 0) ∷ loads 0 y 0 ∷ []) ∷ [])
+    ∷ refusesAll (byRecord 9 1) (second (addressOn event0 (loads 1 y 0)) ∷ second (dataOn event0 (stores 1 y 1)) ∷ second (controlOn event0 (loads 1 y 0)) ∷ [])
+    ∷ refusesAll (byRecord 9 1) (second (addressOn event2 (loads 0 y 0)) ∷ second (addressOn (2 ^ 31) (loads 0 y 0)) ∷ second (dataOn (2 ^ 31) (stores 0 y 1))
+    ∷ second (controlOn (2 ^ 31) (loads 0 y 0)) ∷ [])
+    -- a plain store, a fence, fence.tso
+    ∷ refusesAll (byRecord 9 1) (program (stores 0 x 1 ∷ addressOn event0 (loads 0 y 0) ∷ []) ∷ program (fullFence 0 ∷ addressOn event0 (loads 0 y 0) ∷ [])
+    ∷ program (fencesTso 0 ∷ addressOn event0 (loads 0 y 0) ∷ []) ∷ program (stores 0 x 1 ∷ dataOn event0 (stores 0 y 1) ∷ [])
+    ∷ program (stores 0 x 1 ∷ controlOn event0 (stores 0 y 1) ∷ []) ∷ [])
+    -- one bit among others
+    ∷ refusesAll (byRecord 9 2) (program (loads 0 x 0 ∷ stores 0 y 1 ∷ addressOn (event0 + event1) (loads 0 y 0) ∷ []) ∷ [])
+    -- a data mask on a load, on an LR
+    ∷ refusesAll (byRecord 9 1) (second (dataOn event0 (loads 0 y 0)) ∷ second (dataOn event0 (reserved 0 y 0)) ∷ [])
+    -- a later event of each kind that lacks the bit of the record before it
+    ∷ refusesAll (byRecord 9 1) (controlled (loads 0 x 0) ∷ controlled (stores 0 x 1) ∷ controlled (swaps 0 x 0 1) ∷ controlled (reserved 0 x 0) ∷ [])
+    ∷ refusesAll (byRecord 9 2) (program (loads 0 y 0 ∷ reserved 0 x 0 ∷ controlOn event0 (stores 0 y 1) ∷ conditional 0 x 1 ∷ []) ∷ [])
+    -- a record of each kind that has the bit
+    ∷ refusesAll (byRecord 9 1) (uncontrolled (controlOn event0 (loads 0 x 0)) ∷ uncontrolled (controlOn event0 (stores 0 x 1))
+    ∷ uncontrolled (controlOn event0 (swaps 0 x 0 1)) ∷ uncontrolled (controlOn event0 (reserved 0 x 0)) ∷ [])
+    ∷ refusesAll (byRecord 9 2) (program (loads 0 y 0 ∷ reserved 0 x 0 ∷ controlOn event0 (conditional 0 x 1) ∷ stores 0 y 1 ∷ []) ∷ [])
+    -- with the bit it passes; so do fences, the other hart's events, and earlier ones
+    ∷ acceptsAll (controlled (controlOn event0 (loads 0 x 0)) ∷ controlled (controlOn event0 (stores 0 x 1)) ∷ controlled (controlOn event0 (swaps 0 x 0 1))
+    ∷ controlled (fullFence 0) ∷ controlled (fencesTso 0) ∷ controlled (loads 1 x 0) ∷ controlled (stores 1 x 1)
+    ∷ program (loads 0 x 0 ∷ loads 0 x 0 ∷ controlOn event0 (stores 0 y 1) ∷ []) ∷ [])
+    -- another bit isn't that bit; more bits are fine; a later event that isn't the next counts too
+    ∷ refusesAll (byRecord 9 2) (program (loads 0 x 0 ∷ loads 0 x 0 ∷ controlOn event0 (stores 0 y 1) ∷ controlOn event1 (stores 0 y 2) ∷ []) ∷ [])
+    ∷ acceptsAll (program (loads 0 x 0 ∷ loads 0 x 0 ∷ controlOn event0 (stores 0 y 1) ∷ controlOn (event0 + event1) (stores 0 y 2) ∷ []) ∷ [])
+    ∷ refusesAll (byRecord 9 1) (program (loads 0 x 0 ∷ controlOn event0 (stores 0 y 1) ∷ controlOn event0 (stores 0 y 2) ∷ stores 0 y 3 ∷ []) ∷ [])
+    ∷ []
+
+-- "an SC whose nearest earlier LR or SC on its hart isn't an LR to the same location"
+abbrev pub line10Cases : List Claim
+line10Cases =
+    acceptsAll (secondOfPair (conditional 0 x 1) ∷ program (reserved 0 x 0 ∷ reserved 0 x 0 ∷ conditional 0 x 1 ∷ [])
+    ∷ program (reserved 0 y 0 ∷ reserved 0 x 0 ∷ conditional 0 x 1 ∷ [])
+    ∷ program (reserved 0 x 0 ∷ conditional 0 x 1 ∷ reserved 0 y 0 ∷ conditional 0 y 1 ∷ [])
+    ∷ program (reserved 0 x 0 ∷ loads 0 y 0 ∷ stores 0 x 1 ∷ swaps 0 y 0 1 ∷ fullFence 0 ∷ conditional 0 x 1 ∷ [])
+    ∷ program (reserved 0 x 0 ∷ reserved 1 y 0 ∷ conditional 0 x 1 ∷ conditional 1 y 1 ∷ []) ∷ [])
+    -- none before it
+    ∷ refusesAll (byRecord 10 0) (alone (conditional 0 x 1) ∷ program (conditional 0 x 1 ∷ reserved 0 x 0 ∷ []) ∷ [])
+    -- a load, a store or an AMO isn't an LR; an LR to another location; another hart's
+    ∷ refusesAll (byRecord 10 1) (second (conditional 0 x 1) ∷ program (stores 0 x 1 ∷ conditional 0 x 1 ∷ []) ∷ program (swaps 0 x 0 1 ∷ conditional 0 x 1 ∷ [])
+    ∷ secondOfPair (conditional 0 y 1) ∷ secondOfPair (conditional 1 x 1) ∷ [])
+    -- the nearest is an SC; or an LR to another location, though one before it is to the same
+    ∷ refusesAll (byRecord 10 2) (program (reserved 0 x 0 ∷ conditional 0 x 1 ∷ conditional 0 x 2 ∷ [])
+    ∷ program (reserved 0 x 0 ∷ reserved 0 y 0 ∷ conditional 0 x 1 ∷ []) ∷ [])
+    ∷ []
+
+-- "no memory event"
+abbrev pub line11Cases : List Claim
+line11Cases =
+    refusesAll (byLine 11) (alone (fullFence 0) ∷ alone (fencesTso 0) ∷ program (fences 0 0 ∷ fencesTso 1 ∷ []) ∷ [])
+    ∷ acceptsAll (alone (loads 0 x 0) ∷ alone (stores 0 x 1) ∷ alone (swaps 0 x 0 1) ∷ alone (reserved 0 x 0) ∷ program (fullFence 0 ∷ loads 0 x 0 ∷ []) ∷ [])
+    ∷ []
+
+-- "Exactly the lowest number whose line holds is given, or else none; within 7 to 10, its lowest record is named."
+abbrev pub lineOrderCases : List Claim
+lineOrderCases =
+    -- 5 before 6, 6 before 7
+    refusesAll (byLine 5) (valued 0 1 0 (0 ∷ 5 ∷ []) [] (loads 0 x 0 ∷ []) ∷ [])
+    ∷ refusesAll (byLine 6) (valued 1 1 0 (0 ∷ 5 ∷ []) [] (loads 1 x 0 ∷ []) ∷ [])
+    -- record 3 breaking 7 before record 0 breaking 8; 8 before 9; 9 before 10; 7 before 11
+    ∷ refusesAll (byRecord 7 3) (program (flagged releaseRCpc (loads 0 x 0) ∷ loads 0 x 0 ∷ loads 0 x 0 ∷ loads 2 x 0 ∷ []) ∷ [])
+    ∷ refusesAll (byRecord 8 1) (program (addressOn event1 (loads 0 x 0) ∷ flagged releaseRCpc (loads 0 x 0) ∷ []) ∷ [])
+    ∷ refusesAll (byRecord 9 1) (program (conditional 0 x 1 ∷ addressOn event1 (loads 0 x 0) ∷ []) ∷ [])
+    ∷ refusesAll (byRecord 7 0) (alone (access fence 0 y 0 0) ∷ [])
+    -- the lowest record of each
+    ∷ refusesAll (byRecord 7 1) (program (loads 0 x 0 ∷ loads 2 x 0 ∷ loads 2 x 0 ∷ []) ∷ [])
+    ∷ refusesAll (byRecord 8 1) (program (loads 0 x 0 ∷ flagged releaseRCpc (loads 0 x 0) ∷ flagged releaseRCpc (loads 0 x 0) ∷ []) ∷ [])
+    ∷ refusesAll (byRecord 9 1) (program (loads 0 x 0 ∷ dataOn event0 (loads 0 x 0) ∷ dataOn event0 (loads 0 x 0) ∷ []) ∷ [])
+    ∷ refusesAll (byRecord 10 1) (program (loads 0 x 0 ∷ conditional 0 x 1 ∷ conditional 0 x 1 ∷ []) ∷ [])
+    ∷ []
