@@ -3,11 +3,10 @@ use Prim.Native.Nat.{ℕ}
 use mathlib.Core.List.{List, [], _∷_}
 use Rattle.table.specs.declared.Table.{Table}
 use Rattle.prefixes.specs.Answer.{found, noneLeft, spent}
-use Rattle.model.specs.Rules.{initially, nothing}
 use Rattle.model.specs.Verdict.{allowed, brokenPpo, brokenAtomicity}
 use Rattle.model.specs.Claims.{x, y, loads, stores, swaps, reserved, conditional, fullFence, flagged, addressOn, controlOn, event3}
 use Rattle.model.specs.Claims.{unannotated, acquireRCpc, acquireRCsc, releaseRCpc, releaseRCsc, plainTest, valued}
-use Rattle.model.specs.Claims.{Claim, allWitnesses, searched, judged, ruled}
+use Rattle.model.specs.Claims.{initially, nothing, Claim, allWitnesses, searched, judged, ruled}
 
 -- "C1: hart 0 stores x=1 (0), y=1 (1); hart 1 loads y reading 1 (2), x reading 0 (3)."
 abbrev pub c1 : Table

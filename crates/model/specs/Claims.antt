@@ -1,4 +1,5 @@
--- Worked cases: events and tables in few words, and what can be stated of them. x, y, z, v are locations 0 to 3.
+-- Worked cases: events and tables in few words, and what can be stated of them. x, y, z, v are locations 0 to 3. Numbers are the
+-- paper's, and not names of the definitions, which the cases are to hold.
 use Prim.Native.Nat.{ℕ, _-_}
 use mathlib.Core.Path.{_≡_}
 use mathlib.Core.Bool.{Bool, true, false, cond}
@@ -6,11 +7,9 @@ use mathlib.Core.List.{List, [], _∷_, _++_}
 use lib.ListN.{length, replicate}
 use Rattle.lists.specs.Below.{below}
 use Rattle.lists.specs.Lists.{kept}
-use Rattle.edition.specs.Limits.{maxLocations}
 use Rattle.edition.specs.declared.LocationNo.{LocationNo}
 use Rattle.table.specs.declared.Event.{Event}
 use Rattle.table.specs.declared.Table.{Table}
-use Rattle.table.specs.Events.{load, store, amo, lr, sc, fence, fencetso, noEvent, capacity}
 use Rattle.refusals.specs.Lines.{Refused, accepted, firstLine}
 use Rattle.refusals.specs.TableLines.{tableLines}
 use Rattle.prefixes.specs.Answer.{Answer}
@@ -38,23 +37,28 @@ abbrev pub access : (kind hart location read written : ℕ) → Event
 access k h l r w =
     record { kind = k; hart = h; location = record { 0 = l }; flags = 0; addr = 0; «data» = 0; ctrl = 0; read = r; written = w; operation = 0; operand = 0 }
 
+-- "Kinds: 1 load, 2 store, 3 AMO, 4 LR, 5 SC, 6 fence, 7 fence.tso."
 abbrev pub loads : (hart location read : ℕ) → Event
-loads h l r = access load h l r 0
+loads h l r = access 1 h l r 0
 
 abbrev pub stores : (hart location written : ℕ) → Event
-stores h l w = access store h l 0 w
+stores h l w = access 2 h l 0 w
 
--- an AMO
+-- an AMO without an operation
 abbrev pub swaps : (hart location read written : ℕ) → Event
-swaps h l r w = access amo h l r w
+swaps h l r w = access 3 h l r w
 
 -- an LR
 abbrev pub reserved : (hart location read : ℕ) → Event
-reserved h l r = access lr h l r 0
+reserved h l r = access 4 h l r 0
 
 -- an SC
 abbrev pub conditional : (hart location written : ℕ) → Event
-conditional h l w = access sc h l 0 w
+conditional h l w = access 5 h l 0 w
+
+-- a slot past the events
+abbrev pub blankEvent : Event
+blankEvent = access 0 0 0 0 0
 
 -- the event with these flags
 abbrev pub flagged : ℕ → Event → Event
@@ -83,10 +87,10 @@ operated o n e =
 
 -- a fence with these bits; fence.tso
 abbrev pub fences : (hart bits : ℕ) → Event
-fences h f = flagged f (access fence h 0 0 0)
+fences h f = flagged f (access 6 h 0 0 0)
 
 abbrev pub fencesTso : (hart : ℕ) → Event
-fencesTso h = access fencetso h 0 0 0
+fencesTso h = access 7 h 0 0 0
 
 -- a fence of all four bits
 abbrev pub fullFence : ℕ → Event
@@ -105,7 +109,7 @@ event2 = 4
 abbrev pub event3 : ℕ
 event3 = 8
 
--- the flags of one annotation alone, or of none
+-- the flags of one annotation alone, or of none: "Memory flags from bit 0: acquire-RCpc, acquire-RCsc, release-RCpc, release-RCsc."
 abbrev pub unannotated : ℕ
 unannotated = 0
 
@@ -121,7 +125,14 @@ releaseRCpc = 4
 abbrev pub releaseRCsc : ℕ
 releaseRCsc = 8
 
--- a list with what follows, up to n entries
+-- a returned list's entry of a non-reader, 254, and the initial write, 255
+abbrev pub nothing : ℕ
+nothing = 254
+
+abbrev pub initially : ℕ
+initially = 255
+
+-- a list, filled up to n entries
 abbrev pub filled : {A : Type 0} → ℕ → A → List A → List A
 filled n d l = l ++ replicate (n - length l) d
 
@@ -133,9 +144,9 @@ valued h l s i f es =
       locations = l;
       count = length es;
       stated = s;
-      initial = filled maxLocations 0 i;
-      events = filled capacity noEvent es;
-      finals = filled maxLocations 0 f;
+      initial = filled 8 0 i;
+      events = filled 32 blankEvent es;
+      finals = filled 8 0 f;
     }
 
 -- a test with zero initial values and no stated final value

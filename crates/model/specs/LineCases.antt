@@ -2,15 +2,11 @@
 use Prim.Native.Nat.{ℕ, _+_, _^_}
 use mathlib.Core.List.{List, [], _∷_, _++_}
 use lib.ListN.{replicate}
-use Rattle.edition.specs.Limits.{maxLocations}
-use Rattle.edition.specs.declared.LocationNo.{LocationNo}
 use Rattle.table.specs.declared.Event.{Event}
 use Rattle.table.specs.declared.Table.{Table}
-use Rattle.table.specs.Events.{load, store, amo, lr, sc, fence, fencetso, noEvent, capacity}
-use Rattle.operation.specs.Operation.{noOperation, amoadd, amoand, amoor, amoxor, amomaxu, amominu}
 use Rattle.refusals.specs.Lines.{byLine, byRecord}
-use Rattle.model.specs.Claims.{x, y, z, access, loads, stores, swaps, reserved, conditional, fences, fullFence, fencesTso}
-use Rattle.model.specs.Claims.{flagged, addressOn, dataOn, controlOn, operated, event0, event1, event2, event3}
+use Rattle.model.specs.Claims.{x, y, access, blankEvent, loads, stores, swaps, reserved, conditional, fences, fullFence, fencesTso}
+use Rattle.model.specs.Claims.{flagged, addressOn, dataOn, controlOn, operated, event0, event1, event2}
 use Rattle.model.specs.Claims.{acquireRCpc, acquireRCsc, releaseRCpc, releaseRCsc, filled, plainTest, valued}
 use Rattle.model.specs.Claims.{Claim, acceptsAll, refusesAll, refusesWithBytes}
 
@@ -54,9 +50,9 @@ past e =
       locations = 1;
       count = 1;
       stated = 0;
-      initial = replicate maxLocations 0;
-      events = filled capacity noEvent (loads 0 x 0 ∷ e ∷ []);
-      finals = replicate maxLocations 0;
+      initial = replicate 8 0;
+      events = filled 32 blankEvent (loads 0 x 0 ∷ e ∷ []);
+      finals = replicate 8 0;
     }
 
 -- the last slot
@@ -67,9 +63,9 @@ pastAll e =
       locations = 1;
       count = 1;
       stated = 0;
-      initial = replicate maxLocations 0;
-      events = filled 31 noEvent (loads 0 x 0 ∷ []) ++ (e ∷ []);
-      finals = replicate maxLocations 0;
+      initial = replicate 8 0;
+      events = filled 31 blankEvent (loads 0 x 0 ∷ []) ++ (e ∷ []);
+      finals = replicate 8 0;
     }
 
 -- "initial values of locations not in the test, final values not stated, records past the events"
@@ -82,16 +78,17 @@ line6Cases =
     ∷ refusesAll (byLine 6) (valued 1 2 0 [] (5 ∷ []) (loads 0 x 0 ∷ []) ∷ valued 1 2 1 [] (0 ∷ 5 ∷ []) (loads 0 x 0 ∷ []) ∷ valued 1 2 2 [] (5 ∷ []) (loads 0 x 0 ∷ [])
     ∷ valued 1 8 0 [] (0 ∷ 0 ∷ 0 ∷ 0 ∷ 0 ∷ 0 ∷ 0 ∷ 5 ∷ []) (loads 0 x 0 ∷ []) ∷ [])
     -- each field of a record past the events
-    ∷ acceptsAll (past noEvent ∷ pastAll noEvent ∷ [])
+    ∷ acceptsAll (past blankEvent ∷ pastAll blankEvent ∷ [])
     ∷ refusesAll (byLine 6) (past (access 1 0 0 0 0) ∷ past (access 0 1 0 0 0) ∷ past (access 0 0 1 0 0) ∷ past (access 0 0 0 1 0) ∷ past (access 0 0 0 0 1)
-    ∷ past (flagged 1 noEvent) ∷ past (addressOn 1 noEvent) ∷ past (dataOn 1 noEvent) ∷ past (controlOn 1 noEvent)
-    ∷ past (operated 1 0 noEvent) ∷ past (operated 0 1 noEvent) ∷ pastAll (loads 0 x 0) ∷ [])
+    ∷ past (flagged 1 blankEvent) ∷ past (addressOn 1 blankEvent) ∷ past (dataOn 1 blankEvent) ∷ past (controlOn 1 blankEvent)
+    ∷ past (operated 1 0 blankEvent) ∷ past (operated 0 1 blankEvent) ∷ pastAll (loads 0 x 0) ∷ [])
     -- bytes that are no field
     ∷ refusesWithBytes (byLine 6) (headed 1 1 0)
     ∷ refusesWithBytes (byLine 5) (headed 0 1 0)
     ∷ []
 
--- an AMO with an operation, the value read, the operand and the value written
+-- an AMO with an operation ("0 none, 1 add, 2 and, 3 or, 4 exclusive or, 5 larger, 6 smaller"), the value read, the operand and the
+-- value written
 abbrev operates : (operation read operand written : ℕ) → Table
 operates o r n w = alone (operated o n (swaps 0 x r w))
 
@@ -113,30 +110,30 @@ line7Cases =
     -- flags
     ∷ refusesAll (byRecord 7 1) (second (flagged 16 (loads 0 x 0)) ∷ second (flagged 16 (stores 0 x 1)) ∷ second (flagged 16 (swaps 0 x 0 1))
     ∷ second (flagged 16 (reserved 0 x 0)) ∷ secondOfPair (flagged 16 (conditional 0 x 1)) ∷ second (fences 0 16) ∷ second (flagged 16 (fencesTso 0)) ∷ [])
-    -- a non-reader with a value read
-    ∷ refusesAll (byRecord 7 1) (second (access store 0 x 1 1) ∷ secondOfPair (access sc 0 x 1 1) ∷ second (access fence 0 0 1 0) ∷ second (access fencetso 0 0 1 0) ∷ [])
-    -- a non-writer with a value written
-    ∷ refusesAll (byRecord 7 1) (second (access load 0 x 0 1) ∷ second (access lr 0 x 0 1) ∷ second (access fence 0 0 0 1) ∷ second (access fencetso 0 0 0 1) ∷ [])
-    -- a fence with location or mask; flags on fence.tso
-    ∷ refusesAll (byRecord 7 1) (second (access fence 0 y 0 0) ∷ second (access fencetso 0 y 0 0)
+    -- a non-reader with a value read: store, SC, fence, fence.tso
+    ∷ refusesAll (byRecord 7 1) (second (access 2 0 x 1 1) ∷ secondOfPair (access 5 0 x 1 1) ∷ second (access 6 0 0 1 0) ∷ second (access 7 0 0 1 0) ∷ [])
+    -- a non-writer with a value written: load, LR, fence, fence.tso
+    ∷ refusesAll (byRecord 7 1) (second (access 1 0 x 0 1) ∷ second (access 4 0 x 0 1) ∷ second (access 6 0 0 0 1) ∷ second (access 7 0 0 0 1) ∷ [])
+    -- a fence or fence.tso with location or mask; flags on fence.tso
+    ∷ refusesAll (byRecord 7 1) (second (access 6 0 y 0 0) ∷ second (access 7 0 y 0 0)
     ∷ second (addressOn event0 (fullFence 0)) ∷ second (dataOn event0 (fullFence 0)) ∷ second (controlOn event0 (fullFence 0))
     ∷ second (addressOn event0 (fencesTso 0)) ∷ second (dataOn event0 (fencesTso 0)) ∷ second (controlOn event0 (fencesTso 0)) ∷ [])
     ∷ refusesAll (byRecord 7 1) (second (flagged 1 (fencesTso 0)) ∷ second (flagged 8 (fencesTso 0)) ∷ second (flagged 15 (fencesTso 0)) ∷ [])
     -- "Only an AMO may have an operation": here the written value, 0, is that of the operation
-    ∷ refusesAll (byRecord 7 1) (second (operated amoadd 0 (loads 0 x 0)) ∷ second (operated amoadd 0 (stores 0 x 0)) ∷ second (operated amoadd 0 (reserved 0 x 0))
-    ∷ secondOfPair (operated amoadd 0 (conditional 0 x 0)) ∷ second (operated amoadd 0 (fullFence 0)) ∷ second (operated amoadd 0 (fencesTso 0)) ∷ [])
+    ∷ refusesAll (byRecord 7 1) (second (operated 1 0 (loads 0 x 0)) ∷ second (operated 1 0 (stores 0 x 0)) ∷ second (operated 1 0 (reserved 0 x 0))
+    ∷ secondOfPair (operated 1 0 (conditional 0 x 0)) ∷ second (operated 1 0 (fullFence 0)) ∷ second (operated 1 0 (fencesTso 0)) ∷ [])
     -- operations go to 6
     ∷ refusesAll (byRecord 7 0) (operates 7 0 0 0 ∷ operates 255 0 0 0 ∷ [])
     -- "0 none (the written value is as stated, operand 0)"
-    ∷ acceptsAll (operates noOperation 12 0 99 ∷ [])
+    ∷ acceptsAll (operates 0 12 0 99 ∷ [])
     ∷ refusesAll (byRecord 7 1) (second (operated 0 1 (swaps 0 x 0 1)) ∷ second (operated 0 1 (loads 0 x 0)) ∷ second (operated 0 1 (stores 0 x 1))
     ∷ second (operated 0 1 (reserved 0 x 0)) ∷ secondOfPair (operated 0 1 (conditional 0 x 1)) ∷ second (operated 0 1 (fullFence 0))
     ∷ second (operated 0 1 (fencesTso 0)) ∷ [])
     -- "the written value must be the operation applied to the value read"
-    ∷ acceptsAll (operates amoadd 12 10 22 ∷ operates amoand 12 10 8 ∷ operates amoor 12 10 14 ∷ operates amoxor 12 10 6 ∷ operates amomaxu 12 10 12
-    ∷ operates amominu 12 10 10 ∷ operates amomaxu 10 12 12 ∷ operates amominu 10 12 10 ∷ operates amoadd 65535 1 0 ∷ [])
-    ∷ refusesAll (byRecord 7 0) (operates amoadd 12 10 2 ∷ operates amoand 12 10 14 ∷ operates amoor 12 10 8 ∷ operates amoxor 12 10 14 ∷ operates amomaxu 12 10 10
-    ∷ operates amominu 12 10 12 ∷ operates amomaxu 10 12 10 ∷ operates amominu 10 12 12 ∷ operates amoadd 65535 1 65535 ∷ [])
+    ∷ acceptsAll (operates 1 12 10 22 ∷ operates 2 12 10 8 ∷ operates 3 12 10 14 ∷ operates 4 12 10 6 ∷ operates 5 12 10 12
+    ∷ operates 6 12 10 10 ∷ operates 5 10 12 12 ∷ operates 6 10 12 10 ∷ operates 1 65535 1 0 ∷ [])
+    ∷ refusesAll (byRecord 7 0) (operates 1 12 10 2 ∷ operates 2 12 10 14 ∷ operates 3 12 10 8 ∷ operates 4 12 10 14 ∷ operates 5 12 10 10
+    ∷ operates 6 12 10 12 ∷ operates 5 10 12 10 ∷ operates 6 10 12 12 ∷ operates 1 65535 1 65535 ∷ [])
     ∷ []
 
 -- "both acquires or both releases at once; a reader with release and no acquire; a plain store or SC with acquire and no release";
@@ -256,7 +253,7 @@ lineOrderCases =
     ∷ refusesAll (byRecord 7 3) (program (flagged releaseRCpc (loads 0 x 0) ∷ loads 0 x 0 ∷ loads 0 x 0 ∷ loads 2 x 0 ∷ []) ∷ [])
     ∷ refusesAll (byRecord 8 1) (program (addressOn event1 (loads 0 x 0) ∷ flagged releaseRCpc (loads 0 x 0) ∷ []) ∷ [])
     ∷ refusesAll (byRecord 9 1) (program (conditional 0 x 1 ∷ addressOn event1 (loads 0 x 0) ∷ []) ∷ [])
-    ∷ refusesAll (byRecord 7 0) (alone (access fence 0 y 0 0) ∷ [])
+    ∷ refusesAll (byRecord 7 0) (alone (access 6 0 y 0 0) ∷ [])
     -- the lowest record of each
     ∷ refusesAll (byRecord 7 1) (program (loads 0 x 0 ∷ loads 2 x 0 ∷ loads 2 x 0 ∷ []) ∷ [])
     ∷ refusesAll (byRecord 8 1) (program (loads 0 x 0 ∷ flagged releaseRCpc (loads 0 x 0) ∷ flagged releaseRCpc (loads 0 x 0) ∷ []) ∷ [])

@@ -4,11 +4,10 @@ use Prim.Native.Nat.{ℕ, _+_}
 use mathlib.Core.List.{List, [], _∷_}
 use Rattle.table.specs.declared.Event.{Event}
 use Rattle.table.specs.declared.Table.{Table}
-use Rattle.model.specs.Rules.{initially, nothing}
 use Rattle.model.specs.Claims.{x, y, z, v, loads, stores, swaps, reserved, conditional, fences, fullFence, fencesTso}
 use Rattle.model.specs.Claims.{flagged, addressOn, dataOn, controlOn, event0, event1}
 use Rattle.model.specs.Claims.{acquireRCpc, acquireRCsc, releaseRCpc, releaseRCsc, plainTest}
-use Rattle.model.specs.Claims.{steadySet, returnedSet, steady, returned, Claim, preserved}
+use Rattle.model.specs.Claims.{steadySet, returnedSet, steady, returned, initially, nothing, Claim, preserved}
 
 -- up to two harts, four locations
 abbrev program : List Event → Table
@@ -18,7 +17,7 @@ program es = plainTest 2 4 es
 abbrev unread : List ℕ
 unread = []
 
--- the bits of a fence
+-- "Fence flags from bit 0: pr, pw, sr, sw"
 abbrev pr : ℕ
 pr = 1
 
