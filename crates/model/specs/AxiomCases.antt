@@ -46,7 +46,8 @@ loadValueCases =
     ∷ returning (program (swaps 0 x 0 1 ∷ [])) (0 ∷ []) (initially ∷ [])
     ∷ returning (program (swaps 0 x 0 1 ∷ swaps 0 x 1 2 ∷ [])) (0 ∷ 1 ∷ []) (initially ∷ 0 ∷ [])
     -- loads, AMOs and LRs return; stores, AMOs and SCs are returned from; a fence has no entry of its own
-    ∷ returning (program (stores 0 x 1 ∷ fences 0 0 ∷ reserved 0 x 1 ∷ conditional 0 x 2 ∷ loads 0 x 2 ∷ swaps 0 x 2 3 ∷ loads 0 x 3 ∷ []))
+    ∷ returning (program (stores 0 x 1 ∷ fences 0 0 ∷ reserved 0 x 1 ∷ conditional 0 x 2 ∷ loads 0 x 2 ∷ swaps 0 x 2 3
+    ∷ loads 0 x 3 ∷ []))
     (0 ∷ 2 ∷ 3 ∷ 4 ∷ 5 ∷ 6 ∷ []) (nothing ∷ nothing ∷ 0 ∷ nothing ∷ 3 ∷ 3 ∷ 5 ∷ [])
     -- a candidate that returns from elsewhere breaks it: from a later write, the initial one, itself
     ∷ judged (program (stores 0 x 1 ∷ loads 1 x 1 ∷ [])) (nothing ∷ 0 ∷ []) (1 ∷ 0 ∷ []) (brokenLoadValue 1)
@@ -84,17 +85,21 @@ atomicityCases =
     -- before the write returned from
     ∷ judged (rivals 3) (3 ∷ nothing ∷ nothing ∷ nothing ∷ []) (2 ∷ 3 ∷ 0 ∷ 1 ∷ []) allowed
     -- another hart's AMO or SC counts, its load or LR doesn't
-    ∷ judged (program (reserved 0 x 0 ∷ conditional 0 x 1 ∷ swaps 1 x 0 2 ∷ [])) (initially ∷ nothing ∷ initially ∷ []) (0 ∷ 2 ∷ 1 ∷ []) (brokenAtomicity 0 2)
+    ∷ judged (program (reserved 0 x 0 ∷ conditional 0 x 1 ∷ swaps 1 x 0 2 ∷ [])) (initially ∷ nothing ∷ initially ∷ [])
+    (0 ∷ 2 ∷ 1 ∷ []) (brokenAtomicity 0 2)
     ∷ judged (program (reserved 0 x 0 ∷ conditional 0 x 1 ∷ reserved 1 x 0 ∷ conditional 1 x 2 ∷ []))
     (initially ∷ nothing ∷ initially ∷ nothing ∷ []) (0 ∷ 2 ∷ 3 ∷ 1 ∷ []) (brokenAtomicity 0 3)
     ∷ judged (program (reserved 0 x 0 ∷ conditional 0 x 1 ∷ loads 1 x 0 ∷ reserved 2 x 0 ∷ []))
     (initially ∷ nothing ∷ initially ∷ initially ∷ []) (0 ∷ 2 ∷ 3 ∷ 1 ∷ []) allowed
     -- another location
-    ∷ judged (program (reserved 0 x 0 ∷ conditional 0 x 1 ∷ stores 1 y 2 ∷ [])) (initially ∷ nothing ∷ nothing ∷ []) (0 ∷ 2 ∷ 1 ∷ []) allowed
+    ∷ judged (program (reserved 0 x 0 ∷ conditional 0 x 1 ∷ stores 1 y 2 ∷ [])) (initially ∷ nothing ∷ nothing ∷ [])
+    (0 ∷ 2 ∷ 1 ∷ []) allowed
     -- the pair is with the nearest LR: store 3 stands between LR 0 and the SC, and LR 1 returned from it
-    ∷ judged (program (reserved 0 x 0 ∷ reserved 0 x 2 ∷ conditional 0 x 1 ∷ stores 1 x 2 ∷ [])) (initially ∷ 3 ∷ nothing ∷ nothing ∷ []) (0 ∷ 3 ∷ 1 ∷ 2 ∷ []) allowed
+    ∷ judged (program (reserved 0 x 0 ∷ reserved 0 x 2 ∷ conditional 0 x 1 ∷ stores 1 x 2 ∷ []))
+    (initially ∷ 3 ∷ nothing ∷ nothing ∷ []) (0 ∷ 3 ∷ 1 ∷ 2 ∷ []) allowed
     -- an LR without an SC
-    ∷ judged (program (reserved 0 x 0 ∷ stores 0 x 1 ∷ stores 1 x 2 ∷ [])) (initially ∷ nothing ∷ nothing ∷ []) (0 ∷ 2 ∷ 1 ∷ []) allowed
+    ∷ judged (program (reserved 0 x 0 ∷ stores 0 x 1 ∷ stores 1 x 2 ∷ [])) (initially ∷ nothing ∷ nothing ∷ [])
+    (0 ∷ 2 ∷ 1 ∷ []) allowed
     -- the lowest LR; then the lowest writer between, not the first in the order
     ∷ judged twoPairs twoPairsReturned (0 ∷ 2 ∷ 4 ∷ 5 ∷ 1 ∷ 3 ∷ []) (brokenAtomicity 0 4)
     ∷ judged twoPairs twoPairsReturned (0 ∷ 1 ∷ 2 ∷ 4 ∷ 5 ∷ 3 ∷ []) (brokenAtomicity 2 5)
@@ -122,17 +127,24 @@ statedCases =
     ∷ judged (program (swaps 0 x 0 5 ∷ loads 1 x 5 ∷ [])) (initially ∷ 0 ∷ []) (0 ∷ 1 ∷ []) allowed
     -- the initial value of the reader's own location
     ∷ judged (valued 1 2 0 (3 ∷ 4 ∷ []) [] (loads 0 y 4 ∷ loads 0 x 3 ∷ [])) (initially ∷ initially ∷ []) (0 ∷ 1 ∷ []) allowed
-    ∷ judged (valued 1 2 0 (3 ∷ 4 ∷ []) [] (loads 0 y 3 ∷ loads 0 x 4 ∷ [])) (initially ∷ initially ∷ []) (0 ∷ 1 ∷ []) (brokenValueRead 0)
-    ∷ judged (valued 1 2 0 (3 ∷ 4 ∷ []) [] (loads 0 y 4 ∷ loads 0 x 0 ∷ [])) (initially ∷ initially ∷ []) (0 ∷ 1 ∷ []) (brokenValueRead 1)
+    ∷ judged (valued 1 2 0 (3 ∷ 4 ∷ []) [] (loads 0 y 3 ∷ loads 0 x 4 ∷ [])) (initially ∷ initially ∷ []) (0 ∷ 1 ∷ [])
+    (brokenValueRead 0)
+    ∷ judged (valued 1 2 0 (3 ∷ 4 ∷ []) [] (loads 0 y 4 ∷ loads 0 x 0 ∷ [])) (initially ∷ initially ∷ []) (0 ∷ 1 ∷ [])
+    (brokenValueRead 1)
     -- the last write of the order, not of the table
     ∷ judged (valued 2 1 1 [] (1 ∷ []) (stores 0 x 1 ∷ stores 1 x 2 ∷ [])) (nothing ∷ nothing ∷ []) (1 ∷ 0 ∷ []) allowed
-    ∷ judged (valued 2 1 1 [] (1 ∷ []) (stores 0 x 1 ∷ stores 1 x 2 ∷ [])) (nothing ∷ nothing ∷ []) (0 ∷ 1 ∷ []) (brokenFinalValue 0)
+    ∷ judged (valued 2 1 1 [] (1 ∷ []) (stores 0 x 1 ∷ stores 1 x 2 ∷ [])) (nothing ∷ nothing ∷ []) (0 ∷ 1 ∷ [])
+    (brokenFinalValue 0)
     -- of that location, by an AMO or SC too; a load after it writes nothing
-    ∷ judged (valued 1 2 3 [] (1 ∷ 2 ∷ []) (swaps 0 x 0 1 ∷ stores 0 y 2 ∷ loads 0 x 1 ∷ [])) (initially ∷ nothing ∷ 0 ∷ []) (0 ∷ 1 ∷ 2 ∷ []) allowed
-    ∷ judged (valued 1 1 1 [] (2 ∷ []) (reserved 0 x 0 ∷ conditional 0 x 2 ∷ loads 0 x 2 ∷ [])) (initially ∷ nothing ∷ 1 ∷ []) (0 ∷ 1 ∷ 2 ∷ []) allowed
+    ∷ judged (valued 1 2 3 [] (1 ∷ 2 ∷ []) (swaps 0 x 0 1 ∷ stores 0 y 2 ∷ loads 0 x 1 ∷ [])) (initially ∷ nothing ∷ 0 ∷ [])
+    (0 ∷ 1 ∷ 2 ∷ []) allowed
+    ∷ judged (valued 1 1 1 [] (2 ∷ []) (reserved 0 x 0 ∷ conditional 0 x 2 ∷ loads 0 x 2 ∷ [])) (initially ∷ nothing ∷ 1 ∷ [])
+    (0 ∷ 1 ∷ 2 ∷ []) allowed
     -- of a location that nothing writes it is the initial value
-    ∷ judged (valued 1 2 1 (3 ∷ 4 ∷ []) (3 ∷ []) (stores 0 y 1 ∷ loads 0 x 3 ∷ [])) (nothing ∷ initially ∷ []) (0 ∷ 1 ∷ []) allowed
-    ∷ judged (valued 1 2 1 (3 ∷ 4 ∷ []) (1 ∷ []) (stores 0 y 1 ∷ loads 0 x 3 ∷ [])) (nothing ∷ initially ∷ []) (0 ∷ 1 ∷ []) (brokenFinalValue 0)
+    ∷ judged (valued 1 2 1 (3 ∷ 4 ∷ []) (3 ∷ []) (stores 0 y 1 ∷ loads 0 x 3 ∷ [])) (nothing ∷ initially ∷ [])
+    (0 ∷ 1 ∷ []) allowed
+    ∷ judged (valued 1 2 1 (3 ∷ 4 ∷ []) (1 ∷ []) (stores 0 y 1 ∷ loads 0 x 3 ∷ [])) (nothing ∷ initially ∷ []) (0 ∷ 1 ∷ [])
+    (brokenFinalValue 0)
     -- what isn't stated isn't asked
     ∷ judged (valued 1 2 0 (3 ∷ []) [] (stores 0 x 1 ∷ [])) (nothing ∷ []) (0 ∷ []) allowed
     ∷ judged (valued 1 2 2 (3 ∷ []) [] (stores 0 x 1 ∷ [])) (nothing ∷ []) (0 ∷ []) allowed
@@ -158,11 +170,14 @@ pairAndLoad r = program (reserved 0 x r ∷ conditional 0 x 1 ∷ stores 1 x 2 �
 abbrev pub verdictCases : List Claim
 verdictCases =
     -- the lowest a, though the pair 1, 2 is lower in b; for that a the lowest b
-    judged (program (stores 0 x 1 ∷ stores 0 y 1 ∷ stores 0 y 2 ∷ stores 0 x 2 ∷ [])) (nothing ∷ nothing ∷ nothing ∷ nothing ∷ []) (3 ∷ 0 ∷ 2 ∷ 1 ∷ [])
-    (brokenPpo 0 3 (1 ∷ []))
-    ∷ judged (program (stores 0 x 1 ∷ stores 0 x 2 ∷ stores 0 x 3 ∷ [])) (nothing ∷ nothing ∷ nothing ∷ []) (2 ∷ 1 ∷ 0 ∷ []) (brokenPpo 0 1 (1 ∷ []))
-    ∷ judged (program (stores 0 x 1 ∷ stores 0 x 2 ∷ stores 0 x 3 ∷ [])) (nothing ∷ nothing ∷ nothing ∷ []) (0 ∷ 2 ∷ 1 ∷ []) (brokenPpo 1 2 (1 ∷ []))
-    ∷ judged (program (stores 0 x 1 ∷ stores 0 x 2 ∷ stores 0 x 3 ∷ [])) (nothing ∷ nothing ∷ nothing ∷ []) (0 ∷ 1 ∷ 2 ∷ []) allowed
+    judged (program (stores 0 x 1 ∷ stores 0 y 1 ∷ stores 0 y 2 ∷ stores 0 x 2 ∷ []))
+    (nothing ∷ nothing ∷ nothing ∷ nothing ∷ []) (3 ∷ 0 ∷ 2 ∷ 1 ∷ []) (brokenPpo 0 3 (1 ∷ []))
+    ∷ judged (program (stores 0 x 1 ∷ stores 0 x 2 ∷ stores 0 x 3 ∷ [])) (nothing ∷ nothing ∷ nothing ∷ []) (2 ∷ 1 ∷ 0 ∷ [])
+    (brokenPpo 0 1 (1 ∷ []))
+    ∷ judged (program (stores 0 x 1 ∷ stores 0 x 2 ∷ stores 0 x 3 ∷ [])) (nothing ∷ nothing ∷ nothing ∷ []) (0 ∷ 2 ∷ 1 ∷ [])
+    (brokenPpo 1 2 (1 ∷ []))
+    ∷ judged (program (stores 0 x 1 ∷ stores 0 x 2 ∷ stores 0 x 3 ∷ [])) (nothing ∷ nothing ∷ nothing ∷ [])
+    (0 ∷ 1 ∷ 2 ∷ []) allowed
     -- the returns given feed rules 2, 3 and 12, not those that the order determines
     ∷ judged (twice 1 0) (2 ∷ initially ∷ nothing ∷ []) (1 ∷ 2 ∷ 0 ∷ []) (brokenPpo 0 1 (2 ∷ []))
     ∷ judged (twice 1 0) (initially ∷ initially ∷ nothing ∷ []) (1 ∷ 2 ∷ 0 ∷ []) (brokenLoadValue 0)
@@ -170,18 +185,24 @@ verdictCases =
     ∷ judged (dependent 1) (initially ∷ nothing ∷ 1 ∷ []) (2 ∷ 0 ∷ 1 ∷ []) (brokenPpo 0 2 (12 ∷ []))
     ∷ judged (dependent 1) (initially ∷ nothing ∷ initially ∷ []) (2 ∷ 0 ∷ 1 ∷ []) (brokenLoadValue 2)
     -- preserved order before load value
-    ∷ judged (program (stores 0 x 1 ∷ stores 0 x 2 ∷ loads 1 x 1 ∷ [])) (nothing ∷ nothing ∷ initially ∷ []) (1 ∷ 0 ∷ 2 ∷ []) (brokenPpo 0 1 (1 ∷ []))
+    ∷ judged (program (stores 0 x 1 ∷ stores 0 x 2 ∷ loads 1 x 1 ∷ [])) (nothing ∷ nothing ∷ initially ∷ []) (1 ∷ 0 ∷ 2 ∷ [])
+    (brokenPpo 0 1 (1 ∷ []))
     -- load value before atomicity, its lowest reader
     ∷ judged (pairAndLoad 0) (initially ∷ nothing ∷ nothing ∷ initially ∷ []) (0 ∷ 2 ∷ 1 ∷ 3 ∷ []) (brokenLoadValue 3)
-    ∷ judged (program (loads 0 x 1 ∷ loads 0 y 1 ∷ stores 1 x 1 ∷ stores 1 y 1 ∷ [])) (2 ∷ 3 ∷ nothing ∷ nothing ∷ []) (0 ∷ 1 ∷ 2 ∷ 3 ∷ []) (brokenLoadValue 0)
-    ∷ judged (program (loads 0 x 0 ∷ loads 0 y 1 ∷ stores 1 x 1 ∷ stores 1 y 1 ∷ [])) (initially ∷ 3 ∷ nothing ∷ nothing ∷ []) (0 ∷ 1 ∷ 2 ∷ 3 ∷ []) (brokenLoadValue 1)
+    ∷ judged (program (loads 0 x 1 ∷ loads 0 y 1 ∷ stores 1 x 1 ∷ stores 1 y 1 ∷ [])) (2 ∷ 3 ∷ nothing ∷ nothing ∷ [])
+    (0 ∷ 1 ∷ 2 ∷ 3 ∷ []) (brokenLoadValue 0)
+    ∷ judged (program (loads 0 x 0 ∷ loads 0 y 1 ∷ stores 1 x 1 ∷ stores 1 y 1 ∷ [])) (initially ∷ 3 ∷ nothing ∷ nothing ∷ [])
+    (0 ∷ 1 ∷ 2 ∷ 3 ∷ []) (brokenLoadValue 1)
     -- atomicity before value read
     ∷ judged (pairAndLoad 9) (initially ∷ nothing ∷ nothing ∷ 1 ∷ []) (0 ∷ 2 ∷ 1 ∷ 3 ∷ []) (brokenAtomicity 0 2)
     ∷ judged (pairAndLoad 9) (initially ∷ nothing ∷ nothing ∷ 2 ∷ []) (0 ∷ 1 ∷ 2 ∷ 3 ∷ []) (brokenValueRead 0)
     -- value read before final value, its lowest reader
-    ∷ judged (valued 1 1 1 [] (7 ∷ []) (loads 0 x 5 ∷ loads 0 x 5 ∷ [])) (initially ∷ initially ∷ []) (0 ∷ 1 ∷ []) (brokenValueRead 0)
-    ∷ judged (valued 1 1 1 [] (7 ∷ []) (loads 0 x 0 ∷ loads 0 x 5 ∷ [])) (initially ∷ initially ∷ []) (0 ∷ 1 ∷ []) (brokenValueRead 1)
-    ∷ judged (valued 1 1 1 [] (7 ∷ []) (loads 0 x 0 ∷ loads 0 x 0 ∷ [])) (initially ∷ initially ∷ []) (0 ∷ 1 ∷ []) (brokenFinalValue 0)
+    ∷ judged (valued 1 1 1 [] (7 ∷ []) (loads 0 x 5 ∷ loads 0 x 5 ∷ [])) (initially ∷ initially ∷ []) (0 ∷ 1 ∷ [])
+    (brokenValueRead 0)
+    ∷ judged (valued 1 1 1 [] (7 ∷ []) (loads 0 x 0 ∷ loads 0 x 5 ∷ [])) (initially ∷ initially ∷ []) (0 ∷ 1 ∷ [])
+    (brokenValueRead 1)
+    ∷ judged (valued 1 1 1 [] (7 ∷ []) (loads 0 x 0 ∷ loads 0 x 0 ∷ [])) (initially ∷ initially ∷ []) (0 ∷ 1 ∷ [])
+    (brokenFinalValue 0)
     ∷ []
 
 -- "An order is lawful if, with the returns that it determines, preserved order, load value and atomicity hold. It is a witness if
@@ -231,7 +252,8 @@ prefixCases =
     -- "entry by entry, and a prefix comes before its extensions"; all of them, fences left out
     ∷ allClean (c4 1) ((0 ∷ []) ∷ (0 ∷ 1 ∷ []) ∷ (1 ∷ []) ∷ (1 ∷ 0 ∷ []) ∷ [])
     ∷ allClean (program (loads 0 x 0 ∷ fullFence 0 ∷ stores 0 y 1 ∷ loads 1 z 0 ∷ []))
-    ((0 ∷ []) ∷ (0 ∷ 2 ∷ []) ∷ (0 ∷ 2 ∷ 3 ∷ []) ∷ (0 ∷ 3 ∷ []) ∷ (0 ∷ 3 ∷ 2 ∷ []) ∷ (3 ∷ []) ∷ (3 ∷ 0 ∷ []) ∷ (3 ∷ 0 ∷ 2 ∷ []) ∷ [])
+    ((0 ∷ []) ∷ (0 ∷ 2 ∷ []) ∷ (0 ∷ 2 ∷ 3 ∷ []) ∷ (0 ∷ 3 ∷ []) ∷ (0 ∷ 3 ∷ 2 ∷ []) ∷ (3 ∷ []) ∷ (3 ∷ 0 ∷ []) ∷ (3 ∷ 0 ∷ 2 ∷ [])
+    ∷ [])
     -- "greater than" the start: 0 comes before 01, 01 before 1; 01 and 10 are witnesses
     ∷ searched (c4 1) [] 9 (found (0 ∷ 1 ∷ []) 2)
     ∷ searched (c4 1) (0 ∷ []) 9 (found (0 ∷ 1 ∷ []) 1)

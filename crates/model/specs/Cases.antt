@@ -66,7 +66,8 @@ amoPasses f = plainTest 2 2 (stores 0 x 1 ∷ flagged f (swaps 0 y 0 1) ∷ flag
 abbrev pub amoStores : (flags : ℕ) → Table
 amoStores f =
     plainTest 2 2
-    (flagged f (swaps 0 x 0 1) ∷ flagged acquireRCsc (loads 0 y 0) ∷ flagged f (swaps 1 y 0 1) ∷ flagged acquireRCsc (loads 1 x 0) ∷ [])
+    (flagged f (swaps 0 x 0 1) ∷ flagged acquireRCsc (loads 0 y 0) ∷ flagged f (swaps 1 y 0 1)
+    ∷ flagged acquireRCsc (loads 1 x 0) ∷ [])
 
 -- an allowance that no case uses up
 abbrev ample : ℕ
@@ -125,7 +126,8 @@ litmusCases =
     ∷ searched (amoPasses unannotated) [] ample (found (1 ∷ 2 ∷ 3 ∷ 0 ∷ []) 18)
     ∷ searched (amoPasses unannotated) (1 ∷ 2 ∷ 3 ∷ 0 ∷ []) ample (noneLeft 16)
     -- With release-RCsc alone rule 7 orders 0 before 1 and 2 before 3, and nothing is left; without it C3's orders are witnesses.
-    ∷ judged (amoStores releaseRCsc) (initially ∷ initially ∷ initially ∷ initially ∷ []) (1 ∷ 2 ∷ 3 ∷ 0 ∷ []) (brokenPpo 0 1 (7 ∷ []))
+    ∷ judged (amoStores releaseRCsc) (initially ∷ initially ∷ initially ∷ initially ∷ []) (1 ∷ 2 ∷ 3 ∷ 0 ∷ [])
+    (brokenPpo 0 1 (7 ∷ []))
     ∷ judged (amoStores unannotated) (initially ∷ initially ∷ initially ∷ initially ∷ []) (1 ∷ 2 ∷ 3 ∷ 0 ∷ []) allowed
     ∷ allWitnesses (amoStores releaseRCsc) []
     ∷ searched (amoStores releaseRCsc) [] ample (noneLeft 18)

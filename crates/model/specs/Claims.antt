@@ -211,16 +211,12 @@ pub data Claim : Type 0 where
   cleanly : Table → List ℕ → Bool → Claim
   -- all clean prefixes, ascending
   allClean : Table → List (List ℕ) → Claim
-  -- lines 5 to 11 accept each of these tables
-  acceptsAll : List Table → Claim
-  -- lines 5 to 11 refuse each of these tables, by this
-  refusesAll : Refused → List Table → Claim
+  -- lines 5 to 11 accept the table
+  accepts : Table → Claim
+  -- they refuse it, by this
+  refuses : Refused → Table → Claim
   -- the refusal if, besides, a byte that is no field and is named zero isn't
   refusesWithBytes : Refused → Table → Claim
-
-abbrev pub refusals : Bool → List Table → List Refused
-refusals extra [] = []
-refusals extra (t ∷ ts) = refusal extra t ∷ refusals extra ts
 
 abbrev pub Right : Claim → Type 0
 Right (allWitnesses t ws) = witnesses t ≡ ws
@@ -233,8 +229,8 @@ Right (atomicityAt t rf gmo l ws) = namedWriter t rf gmo l ≡ ws
 Right (weighed t gmo o l w) = (isOrder t gmo ∷ lawful t gmo ∷ witness t gmo ∷ []) ≡ (o ∷ l ∷ w ∷ [])
 Right (cleanly t p c) = clean t p ≡ c
 Right (allClean t ps) = cleanPrefixes t ≡ ps
-Right (acceptsAll ts) = refusals false ts ≡ replicate (length ts) accepted
-Right (refusesAll r ts) = refusals false ts ≡ replicate (length ts) r
+Right (accepts t) = refusal false t ≡ accepted
+Right (refuses r t) = refusal false t ≡ r
 Right (refusesWithBytes r t) = refusal true t ≡ r
 
 -- lines 5 to 11 accept the table
@@ -253,8 +249,8 @@ Accepted (atomicityAt t rf gmo l ws) = Passes t
 Accepted (weighed t gmo o l w) = Passes t
 Accepted (cleanly t p c) = Passes t
 Accepted (allClean t ps) = Passes t
-Accepted (acceptsAll ts) = Unit {0}
-Accepted (refusesAll r ts) = Unit {0}
+Accepted (accepts t) = Unit {0}
+Accepted (refuses r t) = Unit {0}
 Accepted (refusesWithBytes r t) = Unit {0}
 
 abbrev pub Every : List Claim → Type 0
