@@ -8,7 +8,7 @@ use Rattle.table.specs.declared.Table.{Table}
 use Rattle.prefixes.specs.Answer.{found, noneLeft, spent}
 use Rattle.model.specs.Verdict.{allowed, brokenPpo, brokenLoadValue, brokenAtomicity, brokenValueRead, brokenFinalValue}
 use Rattle.model.specs.Claims.{x, y, z, loads, stores, swaps, reserved, conditional, fences, fullFence, dataOn, addressOn, event0, plainTest, valued}
-use Rattle.model.specs.Claims.{initially, nothing, Claim, searched, judged, returning, atomicityAt, weighed, cleanly, allClean}
+use Rattle.model.specs.Claims.{initially, nothing, Claim, searched, judged, meets, returning, atomicityAt, weighed, cleanly, allClean}
 use Rattle.model.specs.Cases.{c1, c2, c4, c5, c7, c8}
 
 -- up to three harts, three locations, zero initial values
@@ -203,6 +203,14 @@ verdictCases =
     (brokenValueRead 1)
     ∷ judged (valued 1 1 1 [] (7 ∷ []) (loads 0 x 0 ∷ loads 0 x 0 ∷ [])) (initially ∷ initially ∷ []) (0 ∷ 1 ∷ [])
     (brokenFinalValue 0)
+    -- each by itself, with the returns given: preserved order, load value, atomicity, values read, final values
+    ∷ meets forwarded (nothing ∷ 0 ∷ nothing ∷ []) (0 ∷ 1 ∷ 2 ∷ []) true true true true true
+    ∷ meets (twice 1 0) (2 ∷ initially ∷ nothing ∷ []) (1 ∷ 2 ∷ 0 ∷ []) false true true true true
+    ∷ meets (twice 1 0) (initially ∷ initially ∷ nothing ∷ []) (1 ∷ 2 ∷ 0 ∷ []) true false true false true
+    ∷ meets (pairAndLoad 0) (initially ∷ nothing ∷ nothing ∷ initially ∷ []) (0 ∷ 2 ∷ 1 ∷ 3 ∷ []) true false false false true
+    ∷ meets (pairAndLoad 0) (initially ∷ nothing ∷ nothing ∷ 1 ∷ []) (0 ∷ 2 ∷ 1 ∷ 3 ∷ []) true true false true true
+    ∷ meets (pairAndLoad 9) (initially ∷ nothing ∷ nothing ∷ 2 ∷ []) (0 ∷ 1 ∷ 2 ∷ 3 ∷ []) true true true false true
+    ∷ meets (valued 1 2 3 [] (1 ∷ 7 ∷ []) (stores 0 x 1 ∷ [])) (nothing ∷ []) (0 ∷ []) true true true true false
     ∷ []
 
 -- "An order is lawful if, with the returns that it determines, preserved order, load value and atomicity hold. It is a witness if
@@ -220,13 +228,18 @@ orderCases =
     ∷ weighed (program (loads 0 x 0 ∷ fences 0 0 ∷ [])) (0 ∷ 1 ∷ []) false false false
     -- preserved order breaks, by a steady rule and by what the order determines
     ∷ weighed (program (loads 0 x 0 ∷ stores 0 x 1 ∷ [])) (1 ∷ 0 ∷ []) true false false
+    ∷ weighed (program (loads 0 y 0 ∷ loads 0 x 0 ∷ stores 0 x 1 ∷ [])) (0 ∷ 2 ∷ 1 ∷ []) true false false
     ∷ weighed (twice 1 0) (1 ∷ 2 ∷ 0 ∷ []) true false false
     -- atomicity breaks
     ∷ weighed (c7 1) (0 ∷ 2 ∷ 1 ∷ []) true false false
+    ∷ weighed reservedOwn (1 ∷ 0 ∷ 3 ∷ 2 ∷ []) true false false
+    ∷ weighed reservedOwn (1 ∷ 3 ∷ 0 ∷ 2 ∷ []) true true true
     -- a stated value isn't read; a stated final value isn't the last
     ∷ weighed (c4 0) (0 ∷ 1 ∷ []) true true false
     ∷ weighed (c7 1) (0 ∷ 1 ∷ 2 ∷ []) true true false
     ∷ weighed (c7 2) (0 ∷ 1 ∷ 2 ∷ []) true true true
+    ∷ weighed (valued 1 2 3 [] (1 ∷ 7 ∷ []) (stores 0 x 1 ∷ [])) (0 ∷ []) true true false
+    ∷ weighed (valued 1 2 3 [] (1 ∷ 0 ∷ []) (stores 0 x 1 ∷ [])) (0 ∷ []) true true true
     ∷ []
 
 -- "A prefix is a list of different memory events. It is clean if no listed event has a steady predecessor missing or standing

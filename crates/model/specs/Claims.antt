@@ -15,7 +15,7 @@ use Rattle.refusals.specs.TableLines.{tableLines}
 use Rattle.prefixes.specs.Answer.{Answer}
 use Rattle.model.specs.Rules.{ppo, staticPpo, ruleSet}
 use Rattle.model.specs.Returns.{returns}
-use Rattle.model.specs.Axioms.{breaksAtomicity, atomicityWriter}
+use Rattle.model.specs.Axioms.{breaksAtomicity, atomicityWriter, preservedOrder, loadValue, atomicity, valuesRead, finalValues}
 use Rattle.model.specs.Witness.{isOrder, lawful, witness}
 use Rattle.model.specs.Verdict.{Verdict, verdict}
 use Rattle.model.specs.Prefixes.{clean, cleanPrefixes, search, witnesses}
@@ -197,6 +197,8 @@ pub data Claim : Type 0 where
   searched : Table → (start : List ℕ) → (allowance : ℕ) → Answer → Claim
   -- the verdict for a candidate
   judged : Table → (rf gmo : List ℕ) → Verdict → Claim
+  -- preserved order, load value, atomicity, values read, final values of a candidate: each holds, or not
+  meets : Table → (rf gmo : List ℕ) → (ppo loads atomic values finals : Bool) → Claim
   -- the set of rules of a pair with a returned list
   ruled : Table → (rf : List ℕ) → (a b : ℕ) → List ℕ → Claim
   -- all that preserved order orders, with a returned list
@@ -222,6 +224,8 @@ abbrev pub Right : Claim → Type 0
 Right (allWitnesses t ws) = witnesses t ≡ ws
 Right (searched t s b r) = search t s b ≡ r
 Right (judged t rf gmo v) = verdict t rf gmo ≡ v
+Right (meets t rf gmo p l a v f) =
+    (preservedOrder t rf gmo ∷ loadValue t rf gmo ∷ atomicity t rf gmo ∷ valuesRead t rf ∷ finalValues t gmo ∷ []) ≡ (p ∷ l ∷ a ∷ v ∷ f ∷ [])
 Right (ruled t rf a b ks) = ruleSet t rf a b ≡ ks
 Right (preserved t rf ps) = orderedPairs t rf ≡ ps
 Right (returning t gmo rf) = returns t gmo ≡ rf
@@ -242,6 +246,7 @@ abbrev pub Accepted : Claim → Type 0
 Accepted (allWitnesses t ws) = Passes t
 Accepted (searched t s b r) = Passes t
 Accepted (judged t rf gmo v) = Passes t
+Accepted (meets t rf gmo p l a v f) = Passes t
 Accepted (ruled t rf a b ks) = Passes t
 Accepted (preserved t rf ps) = Passes t
 Accepted (returning t gmo rf) = Passes t

@@ -161,6 +161,10 @@ rule4Cases =
     ∷ preserved (fencedAmos (fences 0 (pr + sw))) unread (steady 4 0 2 ∷ [])
     ∷ preserved (fencedAmos (fences 0 (pw + sr))) unread (steady 4 0 2 ∷ [])
     ∷ preserved (fencedAmos (fences 0 (pw + sw))) unread (steady 4 0 2 ∷ [])
+    ∷ preserved (fencedAmos (fences 0 pr)) unread []
+    ∷ preserved (fencedAmos (fences 0 pw)) unread []
+    ∷ preserved (fencedAmos (fences 0 sr)) unread []
+    ∷ preserved (fencedAmos (fences 0 sw)) unread []
     ∷ preserved (fencedAmos (fences 0 (pr + pw))) unread []
     ∷ preserved (fencedAmos (fences 0 (sr + sw))) unread []
     -- fence.tso: all but a store and a later load
@@ -183,10 +187,15 @@ rule5Cases =
     preserved (program (flagged acquireRCpc (loads 0 x 0) ∷ loads 0 y 0 ∷ [])) unread (steady 5 0 1 ∷ [])
     ∷ preserved (program (flagged acquireRCsc (loads 0 x 0) ∷ stores 0 y 1 ∷ [])) unread (steady 5 0 1 ∷ [])
     ∷ preserved (program (flagged acquireRCpc (swaps 0 x 0 1) ∷ loads 0 y 0 ∷ [])) unread (steady 5 0 1 ∷ [])
+    ∷ preserved (program (flagged acquireRCsc (swaps 0 x 0 1) ∷ stores 0 y 1 ∷ [])) unread (steady 5 0 1 ∷ [])
+    ∷ preserved (program (flagged acquireRCpc (reserved 0 x 0) ∷ swaps 0 y 0 1 ∷ [])) unread (steady 5 0 1 ∷ [])
     ∷ preserved (program (flagged acquireRCsc (reserved 0 x 0) ∷ loads 0 y 0 ∷ [])) unread (steady 5 0 1 ∷ [])
     -- a store and an SC have an acquire only beside a release
     ∷ preserved (program (flagged (acquireRCpc + releaseRCpc) (stores 0 x 1) ∷ loads 0 y 0 ∷ [])) unread (steady 5 0 1 ∷ [])
+    ∷ preserved (program (flagged (acquireRCsc + releaseRCpc) (stores 0 x 1) ∷ loads 0 y 0 ∷ [])) unread (steady 5 0 1 ∷ [])
     ∷ preserved (program (reserved 0 x 0 ∷ flagged (acquireRCpc + releaseRCpc) (conditional 0 x 1) ∷ loads 0 y 0 ∷ [])) unread
+    (steadySet 0 1 (1 ∷ 6 ∷ 8 ∷ []) ∷ steady 5 1 2 ∷ [])
+    ∷ preserved (program (reserved 0 x 0 ∷ flagged (acquireRCsc + releaseRCpc) (conditional 0 x 1) ∷ loads 0 y 0 ∷ [])) unread
     (steadySet 0 1 (1 ∷ 6 ∷ 8 ∷ []) ∷ steady 5 1 2 ∷ [])
     -- b's acquire orders nothing, nor does a's release
     ∷ preserved (program (loads 0 x 0 ∷ flagged acquireRCpc (loads 0 y 0) ∷ [])) unread []
@@ -201,10 +210,15 @@ rule6Cases =
     preserved (program (loads 0 x 0 ∷ flagged releaseRCpc (stores 0 y 1) ∷ [])) unread (steady 6 0 1 ∷ [])
     ∷ preserved (program (stores 0 x 1 ∷ flagged releaseRCsc (stores 0 y 1) ∷ [])) unread (steady 6 0 1 ∷ [])
     ∷ preserved (program (loads 0 x 0 ∷ flagged releaseRCpc (swaps 0 y 0 1) ∷ [])) unread (steady 6 0 1 ∷ [])
+    ∷ preserved (program (swaps 0 x 0 1 ∷ flagged releaseRCsc (swaps 0 y 0 1) ∷ [])) unread (steady 6 0 1 ∷ [])
     ∷ preserved (program (loads 0 x 0 ∷ reserved 0 y 0 ∷ flagged releaseRCpc (conditional 0 y 1) ∷ [])) unread
+    (steady 6 0 2 ∷ steadySet 1 2 (1 ∷ 6 ∷ 8 ∷ []) ∷ [])
+    ∷ preserved (program (loads 0 x 0 ∷ reserved 0 y 0 ∷ flagged releaseRCsc (conditional 0 y 1) ∷ [])) unread
     (steady 6 0 2 ∷ steadySet 1 2 (1 ∷ 6 ∷ 8 ∷ []) ∷ [])
     -- a load and an LR have a release only beside an acquire
     ∷ preserved (program (loads 0 x 0 ∷ flagged (acquireRCpc + releaseRCpc) (loads 0 y 0) ∷ [])) unread (steady 6 0 1 ∷ [])
+    ∷ preserved (program (loads 0 x 0 ∷ flagged (acquireRCpc + releaseRCsc) (loads 0 y 0) ∷ [])) unread (steady 6 0 1 ∷ [])
+    ∷ preserved (program (loads 0 x 0 ∷ flagged (acquireRCsc + releaseRCpc) (reserved 0 y 0) ∷ [])) unread (steady 6 0 1 ∷ [])
     ∷ preserved (program (loads 0 x 0 ∷ flagged (acquireRCsc + releaseRCsc) (reserved 0 y 0) ∷ [])) unread (steady 6 0 1 ∷ [])
     ∷ []
 
@@ -292,7 +306,7 @@ rule11Cases =
 -- 12. "b reads from a writer m strictly between, whose address or data depends on a."
 abbrev pub rule12Cases : List Claim
 rule12Cases =
-    -- m a store, by its data and by its address; an AMO; an SC
+    -- m a store, an AMO, an SC, by its data and by its address
     preserved (program (loads 0 x 0 ∷ dataOn event0 (stores 0 y 1) ∷ loads 0 y 1 ∷ [])) (initially ∷ nothing ∷ 1 ∷ [])
     (steady 10 0 1 ∷ returned 12 0 2 ∷ [])
     ∷ preserved (program (loads 0 x 0 ∷ addressOn event0 (stores 0 y 1) ∷ loads 0 y 1 ∷ [])) (initially ∷ nothing ∷ 1 ∷ [])
@@ -301,6 +315,10 @@ rule12Cases =
     (steady 10 0 1 ∷ returned 12 0 2 ∷ returnedSet 1 2 (2 ∷ 3 ∷ []) ∷ [])
     ∷ preserved (program (loads 0 x 0 ∷ reserved 0 y 0 ∷ dataOn event0 (conditional 0 y 1) ∷ loads 0 y 1 ∷ []))
     (initially ∷ initially ∷ nothing ∷ 2 ∷ []) (steady 10 0 2 ∷ returned 12 0 3 ∷ pair 1 2 ∷ returned 3 2 3 ∷ [])
+    ∷ preserved (program (loads 0 x 0 ∷ addressOn event0 (swaps 0 y 0 1) ∷ loads 0 y 1 ∷ [])) (initially ∷ initially ∷ 1 ∷ [])
+    (steady 9 0 1 ∷ returned 12 0 2 ∷ returnedSet 1 2 (2 ∷ 3 ∷ []) ∷ [])
+    ∷ preserved (program (loads 0 x 0 ∷ reserved 0 y 0 ∷ addressOn event0 (conditional 0 y 1) ∷ loads 0 y 1 ∷ []))
+    (initially ∷ initially ∷ nothing ∷ 2 ∷ []) (steady 9 0 2 ∷ returned 12 0 3 ∷ pair 1 2 ∷ returned 3 2 3 ∷ [])
     -- b an AMO, an LR
     ∷ preserved (program (loads 0 x 0 ∷ dataOn event0 (stores 0 y 1) ∷ swaps 0 y 1 2 ∷ [])) (initially ∷ nothing ∷ 1 ∷ [])
     (steady 10 0 1 ∷ returned 12 0 2 ∷ steady 1 1 2 ∷ [])
