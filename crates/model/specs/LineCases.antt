@@ -54,31 +54,25 @@ line5Cases =
     ∷ refuses (byLine 5) (headed 1 1 255)
     ∷ []
 
--- slot 1 past the one event
-abbrev past : Event → Table
-past e =
+-- one event, and these in the slots from the first on
+abbrev oneOf : List Event → Table
+oneOf es =
     record {
       harts = 1;
       locations = 1;
       count = 1;
       stated = 0;
       initial = replicate 8 0;
-      events = filled 32 blankEvent (loads 0 x 0 ∷ e ∷ []);
+      events = filled 32 blankEvent es;
       finals = replicate 8 0;
     }
 
--- the last slot
+-- an event past the one event, and in the last slot
+abbrev past : Event → Table
+past e = oneOf (loads 0 x 0 ∷ e ∷ [])
+
 abbrev pastAll : Event → Table
-pastAll e =
-    record {
-      harts = 1;
-      locations = 1;
-      count = 1;
-      stated = 0;
-      initial = replicate 8 0;
-      events = filled 31 blankEvent (loads 0 x 0 ∷ []) ++ (e ∷ []);
-      finals = replicate 8 0;
-    }
+pastAll e = oneOf (filled 31 blankEvent (loads 0 x 0 ∷ []) ++ (e ∷ []))
 
 -- "initial values of locations not in the test, final values not stated, records past the events"
 abbrev pub line6Cases : List Claim
