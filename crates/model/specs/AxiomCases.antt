@@ -7,7 +7,7 @@ use Rattle.table.specs.declared.Event.{Event}
 use Rattle.table.specs.declared.Table.{Table}
 use Rattle.prefixes.specs.Answer.{found, noneLeft, spent}
 use Rattle.model.specs.Verdict.{allowed, brokenPpo, brokenLoadValue, brokenAtomicity, brokenValueRead, brokenFinalValue}
-use Rattle.model.specs.Claims.{x, y, z, loads, stores, swaps, reserved, conditional, fences, fullFence, dataOn, addressOn, event0, plainTest, valued}
+use Rattle.model.specs.Claims.{x, y, z, loads, stores, swaps, reserved, conditional, fences, fullFence, dataOn, event0, plainTest, valued}
 use Rattle.model.specs.Claims.{initially, nothing, Claim, searched, judged, meets, returning, atomicityAt, weighed, cleanly, allClean}
 use Rattle.model.specs.Cases.{c1, c2, c4, c5, c7, c8}
 
