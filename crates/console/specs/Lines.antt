@@ -8,7 +8,7 @@ use Rattle.console.specs.declared.line.Line.{Line}
 
 -- How many bytes are kept.
 abbrev pub room : ℕ
-room = 256
+room = 512
 
 -- What is kept of a line.
 abbrev pub kept : Line → List ℕ

@@ -3,14 +3,16 @@ use libc::STDERR_FILENO;
 use libc::STDOUT_FILENO;
 ghost use Rattle.console.specs.Lines.{AddsTo, AddsNumber};
 
-// How many bytes are kept; of a longer line these are written as soon as they are full.
-pub const ROOM: usize = 256;
+// How many bytes are kept; of a longer line these are written as soon as they are full. Each refusal with its sentence has room.
+pub const ROOM: usize = 512;
 
-// The first `len` bytes are kept, and are to be written to `file`.
+// The first `len` bytes are kept, and are to be written to `file`. Once a part of a line was lost, nothing more of it is
+// written, so that the error stays that of the loss.
 pub struct Line {
     pub file: i32,
     pub bytes: [u8; ROOM],
     pub len: usize,
+    pub lost: bool,
 }
 
 impl Line {
@@ -20,6 +22,7 @@ impl Line {
             file: STDOUT_FILENO,
             bytes: [0; ROOM],
             len: 0,
+            lost: false,
         }
     }
 
@@ -29,12 +32,17 @@ impl Line {
             file: STDERR_FILENO,
             bytes: [0; ROOM],
             len: 0,
+            lost: false,
         }
     }
 
-    fn write(self) {
+    // False if a part of the line was lost.
+    fn write(self) -> bool {
+        if self.lost {
+            return false;
+        }
         let bytes = self.bytes;
-        io::write_all(self.file, super::front(&bytes, self.len));
+        io::write_all(self.file, super::front(&bytes, self.len))
     }
 
     pub fn text(self, text: &[u8]) -> Line
@@ -42,14 +50,17 @@ impl Line {
     {
         let mut bytes = self.bytes;
         let mut len = self.len;
+        let mut lost = self.lost;
         let mut i: usize = 0;
         while i < text.len() {
             if ROOM <= len {
-                Line {
+                let full = Line {
                     file: self.file,
                     bytes,
                     len,
-                }.write();
+                    lost,
+                };
+                lost = !full.write();
                 len = 0;
             }
             bytes[len] = text[i];
@@ -60,6 +71,7 @@ impl Line {
             file: self.file,
             bytes,
             len,
+            lost,
         }
     }
 
@@ -96,8 +108,8 @@ impl Line {
         line
     }
 
-    // Ends the line and writes it.
-    pub fn end(self) {
-        self.text(b"\n").write();
+    // Ends the line and writes it; false if a part of it was lost.
+    pub fn end(self) -> bool {
+        self.text(b"\n").write()
     }
 }

@@ -1,9 +1,10 @@
 // The verdict for one candidate of standard input, in words.
+use console::Command;
+use console::Filled;
 use console::Line;
 use edition::EditionOne;
 use edition::EventNo;
 use edition::LocationNo;
-use libc::STDIN_FILENO;
 use reads_from::INITIALLY;
 use reads_from::NOTHING;
 use table::Event;
@@ -20,7 +21,7 @@ const LIST: usize = 32;
 const RULES: u8 = 13;
 
 fn usage() {
-    console::print(
+    let printed = console::print(
         b"\
 explain: the verdict of the RISC-V memory model for one candidate, in words
 
@@ -33,9 +34,12 @@ CANDIDATE is, one after the other:
   the order            a byte for each memory event: the global memory order, by event numbers
 
 The answer is 'allowed', or the first of preserved order, load value, atomicity, value read and final value that the
-candidate breaks, with its place; or the refusal of what was handed in.
+candidate breaks, with its place; or the refusal of what was handed in. If reading or writing failed, standard error says so.
 ",
     );
+    if !printed {
+        console::output_failed(b"explain");
+    }
 }
 
 fn event(line: Line, e: EventNo) -> Line {
@@ -108,15 +112,17 @@ fn values(line: Line, e: Event) -> Line {
     }
 }
 
-// A line that says what event k is.
-fn describe(t: Table, k: EventNo) {
+// Goes on with a line that says what event k is.
+fn describe(line: Line, t: Table, k: EventNo) -> Line {
     if (k.0 as usize) < table::CAPACITY {
         let e = t.events[k.0 as usize];
-        let begun = event(Line::output().text(b"  "), k)
+        let begun = event(line.text(b"\n  "), k)
             .item(b": hart ", e.hart)
             .text(b", ");
         let placed = kind(begun, e.kind).item(b" at location ", e.location.0);
-        values(placed, e).end();
+        values(placed, e)
+    } else {
+        line
     }
 }
 
@@ -145,66 +151,63 @@ fn rules(line: Line, set: u16) -> Line {
     named
 }
 
-fn preserved_order(t: Table, a: EventNo, b: EventNo, set: u16) {
+fn preserved_order(t: Table, a: EventNo, b: EventNo, set: u16) -> Line {
     let first = event(Line::output().text(b"preserved order: "), a).text(b" before ");
-    rules(event(first, b), set)
+    let said = rules(event(first, b), set)
         .item(b", but the order has ", b.0)
-        .text(b" first")
-        .end();
-    describe(t, a);
-    describe(t, b);
+        .text(b" first");
+    describe(describe(said, t, a), t, b)
 }
 
-fn load_value(t: Table, block: &[u8], returned: &[u8], order: &[u8], r: EventNo) {
+fn load_value(t: Table, block: &[u8], returned: &[u8], order: &[u8], r: EventNo) -> Line {
     let mut list = [NOTHING; LIST];
     bench::returns(block, order, &mut list);
     let reader = event(Line::output().text(b"load value: "), r).text(b" returns from ");
     let given = source(reader, entry(returned, r)).text(b", but the order makes it return from ");
-    source(given, entry(&list, r)).end();
-    describe(t, r);
+    describe(source(given, entry(&list, r)), t, r)
 }
 
 // The other case of the axiom, that what the LR returns from doesn't precede the SC, can't come up once preserved order and
 // load value hold.
-fn atomicity(t: Table, returned: &[u8], lr: EventNo, w: EventNo) {
+fn atomicity(t: Table, returned: &[u8], lr: EventNo, w: EventNo) -> Line {
     let reader = Line::output()
         .item(b"atomicity: LR ", lr.0)
         .text(b" returns from ");
     let between = source(reader, entry(returned, lr)).text(b", but ");
-    event(between, w)
-        .text(b" of another hart writes between that and its SC")
-        .end();
-    describe(t, lr);
-    describe(t, w);
+    let said = event(between, w).text(b" of another hart writes between that and its SC");
+    describe(describe(said, t, lr), t, w)
 }
 
-fn value_read(t: Table, returned: &[u8], r: EventNo) {
+fn value_read(t: Table, returned: &[u8], r: EventNo) -> Line {
+    let reader = event(Line::output().text(b"value read: "), r);
     if (r.0 as usize) < table::CAPACITY {
         let e = t.events[r.0 as usize];
         let w = entry(returned, r);
         let value = returns::written_value(t, e.location, w);
-        let reader = event(Line::output().text(b"value read: "), r)
+        let said = reader
             .value(b" is stated to read ", e.read)
             .value(b", but returns ", value)
             .text(b" from ");
-        source(reader, w).end();
-        describe(t, r);
+        describe(source(said, w), t, r)
+    } else {
+        reader
     }
 }
 
-fn final_value(t: Table, order: &[u8], x: LocationNo) {
+fn final_value(t: Table, order: &[u8], x: LocationNo) -> Line {
+    let location = Line::output().item(b"final value: location ", x.0);
     if (x.0 as usize) < EditionOne::LOCATIONS {
         let stated = t.finals[x.0 as usize];
         let value = returns::final_value(t, order, x);
-        Line::output()
-            .item(b"final value: location ", x.0)
+        location
             .value(b" is stated to end at ", stated)
             .value(b", but the order leaves ", value)
-            .end();
+    } else {
+        location
     }
 }
 
-fn broken(axiom: Axiom, t: Table, block: &[u8], returned: &[u8], order: &[u8]) {
+fn broken(axiom: Axiom, t: Table, block: &[u8], returned: &[u8], order: &[u8]) -> Line {
     match axiom {
         Axiom::PreservedOrder(a, b, set) => preserved_order(t, a, b, set),
         Axiom::LoadValue(r) => load_value(t, block, returned, order, r),
@@ -214,13 +217,13 @@ fn broken(axiom: Axiom, t: Table, block: &[u8], returned: &[u8], order: &[u8]) {
     }
 }
 
-fn explain(t: Table, block: &[u8], returned: &[u8], order: &[u8]) {
+fn verdict(t: Table, block: &[u8], returned: &[u8], order: &[u8]) -> Line {
     match bench::verdict(block, returned, order) {
-        Verdict::Refused(r) => words::explained(Line::output(), r).end(),
+        Verdict::Refused(r) => words::explained(Line::output(), r),
         Verdict::Broken(axiom) => broken(axiom, t, block, returned, order),
-        Verdict::Allowed => Line::output()
-            .text(b"allowed: the order gives the stated outcome and breaks no rule")
-            .end(),
+        Verdict::Allowed => {
+            Line::output().text(b"allowed: the order gives the stated outcome and breaks no rule")
+        }
     }
 }
 
@@ -231,15 +234,29 @@ fn candidate(input: &[u8]) {
     let lists = console::past(input, EditionOne::BLOCK);
     let t = bench::read(block).table;
     let n = t.count as usize;
-    explain(t, block, console::front(lists, n), console::past(lists, n));
+    if !verdict(t, block, console::front(lists, n), console::past(lists, n)).end() {
+        console::output_failed(b"explain");
+    }
+}
+
+fn explain() {
+    let mut buffer = [0u8; INPUT];
+    match console::fill(&mut buffer) {
+        Filled::Failed => console::input_failed(b"explain"),
+        Filled::Bytes(n) => {
+            if n == 0 {
+                usage();
+            } else {
+                candidate(console::front(&buffer, n));
+            }
+        }
+    }
 }
 
 fn main() {
-    let mut buffer = [0u8; INPUT];
-    let n = io::read_full(STDIN_FILENO, &mut buffer);
-    if n == 0 {
-        usage();
-    } else {
-        candidate(&buffer[..n]);
+    match console::asked() {
+        Command::Run => explain(),
+        Command::Help => usage(),
+        Command::Unknown => console::unknown_argument(b"explain"),
     }
 }

@@ -1,5 +1,9 @@
 // Reads a suite of up to 4,096 bytes and prints what part is handed back as each block, and as some that it lacks.
+use console::Filled;
 use console::Line;
+
+// No suite of the test is longer.
+const LONGEST: usize = 4096;
 
 fn part(suite: &[u8], k: usize) {
     let bytes = suite_part::block(suite, k);
@@ -31,12 +35,10 @@ fn parts(suite: &[u8]) {
     part(suite, usize::MAX);
 }
 
-fn suite(buffer: &mut [u8]) {
-    let n = console::read(buffer, 4096);
-    parts(console::front(buffer, n));
-}
-
 fn main() {
-    let mut buffer = [0u8; 4096];
-    suite(&mut buffer);
+    let mut buffer = [0u8; LONGEST];
+    match console::fill(&mut buffer) {
+        Filled::Failed => console::input_failed(b"parts"),
+        Filled::Bytes(n) => parts(console::front(&buffer, n)),
+    }
 }

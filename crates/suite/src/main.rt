@@ -1,7 +1,8 @@
 // The suite program: for each block of standard input, one line as soon as its search is done; and how many blocks there were.
+use console::Command;
+use console::Filled;
 use console::Line;
 use edition::EditionOne;
-use libc::STDIN_FILENO;
 use search::Reply;
 use witness_walk::Outcome;
 
@@ -33,32 +34,84 @@ fn search(line: Line, bytes: &[u8]) -> Line {
     }
 }
 
-fn line(k: u64, bytes: &[u8]) {
+// The line of block k; false if it was lost, which standard error then says.
+fn line(k: u64, bytes: &[u8]) -> bool {
     let begun = Line::output().text(b"block ").number(k).text(b": ");
-    search(begun, bytes).end();
+    let written = search(begun, bytes).end();
+    if !written {
+        console::output_failed(b"suite");
+    }
+    written
 }
 
-// Block k, whole or a last part; false at the end of the input.
-fn turn(k: u64) -> bool {
+// What a turn did. Of a failure standard error was told.
+enum Effect {
+    Written,
+    NoMore,
+    Failed,
+}
+
+// Block k, whole or a last part.
+fn turn(k: u64) -> Effect {
     let mut buffer = [0u8; EditionOne::BLOCK];
-    let n = io::read_full(STDIN_FILENO, &mut buffer);
-    if n == 0 {
-        return false;
+    match console::fill(&mut buffer) {
+        Filled::Failed => {
+            console::input_failed(b"suite");
+            Effect::Failed
+        }
+        Filled::Bytes(n) => {
+            if n == 0 {
+                Effect::NoMore
+            } else if line(k, console::front(&buffer, n)) {
+                Effect::Written
+            } else {
+                Effect::Failed
+            }
+        }
     }
-    line(k, &buffer[..n]);
-    true
+}
+
+fn last(k: u64) {
+    if !Line::output().number(k).text(b" blocks").end() {
+        console::output_failed(b"suite");
+    }
 }
 
 // The bound makes the loop end for the proof: nothing says that input does.
-fn blocks() -> u64 {
+fn suite() {
     let mut k: u64 = 0;
-    while k < u64::MAX && turn(k) {
-        k += 1;
+    while k < u64::MAX {
+        match turn(k) {
+            Effect::Written => k += 1,
+            Effect::NoMore => break,
+            Effect::Failed => return,
+        }
     }
-    k
+    last(k);
+}
+
+fn usage() {
+    let printed = console::print(
+        b"\
+suite: whether the RISC-V memory model allows the stated outcome of each of many tests
+
+    suite <SUITE
+
+SUITE is any number of tests, each a block of 512 bytes. Each block gets a line as soon as it is decided, blocks are
+numbered from 0: 'allowed' with the first global memory order that gives the outcome, by event numbers; 'forbidden';
+'undecided', if 1,000,000 visited prefixes were not enough; or 'refused' with the number of the refusal. The last line
+has the number of blocks: it is missing if reading or writing failed, which standard error then says.
+",
+    );
+    if !printed {
+        console::output_failed(b"suite");
+    }
 }
 
 fn main() {
-    let k = blocks();
-    Line::output().number(k).text(b" blocks").end();
+    match console::asked() {
+        Command::Run => suite(),
+        Command::Help => usage(),
+        Command::Unknown => console::unknown_argument(b"suite"),
+    }
 }

@@ -1,6 +1,7 @@
 // Walks all witnesses of one block of standard input: a line each, and their number at the end.
+use console::Command;
+use console::Filled;
 use console::Line;
-use libc::STDIN_FILENO;
 use search::Reply;
 use witness_walk::Outcome;
 
@@ -14,17 +15,18 @@ const INPUT: usize = 1024;
 const LIST: usize = 32;
 
 // Where a walk is: the prefix that its next call starts from, and how many witnesses and prefixes there were. It has ended
-// when a call said that none are left, or refused.
+// when a call said that none are left, or refused, or when a line was lost.
 struct Walk {
     prefix: [u8; LIST],
     len: usize,
     witnesses: u64,
     visited: u64,
     ended: bool,
+    lost: bool,
 }
 
 fn usage() {
-    console::print(
+    let printed = console::print(
         b"\
 witnesses: all global memory orders that give the stated outcome of a test
 
@@ -32,9 +34,13 @@ witnesses: all global memory orders that give the stated outcome of a test
 
 BLOCK is one test, a block of 512 bytes. Each witness gets a line, in ascending order: its events by their numbers, and
 the event that each reader reads from, or 'initial' for the initial value. The last line has the number of witnesses and
-that of the prefixes visited. During long walks lines on standard error say how far the walk is.
+that of the prefixes visited: it is missing if reading or writing failed, which standard error then says. During long
+walks lines on standard error say how far the walk is.
 ",
     );
+    if !printed {
+        console::output_failed(b"witnesses");
+    }
 }
 
 // No walk gets to the bound.
@@ -64,7 +70,7 @@ fn returned(line: Line, list: [u8; LIST]) -> Line {
     filled
 }
 
-fn witness(block: &[u8], walk: Walk) {
+fn witness(block: &[u8], walk: Walk) -> bool {
     let prefix = walk.prefix;
     let order = console::front(&prefix, walk.len);
     let mut list = [reads_from::NOTHING; LIST];
@@ -74,7 +80,7 @@ fn witness(block: &[u8], walk: Walk) {
         .number(walk.witnesses)
         .text(b": order")
         .list(order);
-    returned(begun, list).end();
+    returned(begun, list).end()
 }
 
 fn progress(walk: Walk) {
@@ -89,7 +95,7 @@ fn progress(walk: Walk) {
         .end();
 }
 
-fn last(walk: Walk) {
+fn last(walk: Walk) -> bool {
     let begun = if walk.witnesses == 0 {
         Line::output().text(b"no witness: forbidden")
     } else if walk.witnesses == 1 {
@@ -101,7 +107,7 @@ fn last(walk: Walk) {
         .text(b", ")
         .number(walk.visited)
         .text(b" visited")
-        .end();
+        .end()
 }
 
 // What the walk is after a call that answered; and its line.
@@ -113,12 +119,13 @@ fn answered(block: &[u8], walk: Walk, outcome: Outcome, answer: [u8; LIST]) -> W
             next.len = len;
             next.witnesses = sum(walk.witnesses, 1);
             next.visited = sum(walk.visited, visited);
-            witness(block, next);
+            next.lost = !witness(block, next);
+            next.ended = next.lost;
         }
         Outcome::NoneLeft { visited } => {
             next.visited = sum(walk.visited, visited);
             next.ended = true;
-            last(next);
+            next.lost = !last(next);
         }
         Outcome::Spent { len, visited } => {
             next.prefix = answer;
@@ -137,37 +144,51 @@ fn call(block: &[u8], walk: Walk) -> Walk {
     let mut answer = [0u8; LIST];
     match bench::search(block, console::front(&start, len), &mut answer, ALLOWANCE) {
         Reply::Refused(r) => {
-            words::explained(Line::output(), r).end();
             let mut ended = walk;
             ended.ended = true;
+            ended.lost = !words::explained(Line::output(), r).end();
             ended
         }
         Reply::Answered(o) => answered(block, walk, o, answer),
     }
 }
 
-// The bound makes the loop end for the proof.
-fn walk_all(block: &[u8]) {
+// False if a line was lost. The bound makes the loop end for the proof.
+fn walk_all(block: &[u8]) -> bool {
     let mut walk = Walk {
         prefix: [0; LIST],
         len: 0,
         witnesses: 0,
         visited: 0,
         ended: false,
+        lost: false,
     };
     let mut calls: u64 = 0;
     while calls < u64::MAX && !walk.ended {
         walk = call(block, walk);
         calls += 1;
     }
+    !walk.lost
+}
+
+fn witnesses() {
+    let mut buffer = [0u8; INPUT];
+    match console::fill(&mut buffer) {
+        Filled::Failed => console::input_failed(b"witnesses"),
+        Filled::Bytes(n) => {
+            if n == 0 {
+                usage();
+            } else if !walk_all(console::front(&buffer, n)) {
+                console::output_failed(b"witnesses");
+            }
+        }
+    }
 }
 
 fn main() {
-    let mut buffer = [0u8; INPUT];
-    let n = io::read_full(STDIN_FILENO, &mut buffer);
-    if n == 0 {
-        usage();
-    } else {
-        walk_all(&buffer[..n]);
+    match console::asked() {
+        Command::Run => witnesses(),
+        Command::Help => usage(),
+        Command::Unknown => console::unknown_argument(b"witnesses"),
     }
 }

@@ -27,9 +27,6 @@ loop-again c = search needs
 returns : tie.Need-returns Inv-loop μ-loop
 returns c = search needs
 
-returns-2 : tie.Need-returns-2 Inv-loop μ-loop
-returns-2 c = search needs
-
 pub walk-all-spec : {M : Type 1} → statement M
 walk-all-spec =
     tie.close
@@ -41,5 +38,4 @@ walk-all-spec =
     add-calls
     loop-less
     loop-again
-    returns
-    returns-2)
+    returns)

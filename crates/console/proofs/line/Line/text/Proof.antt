@@ -13,12 +13,12 @@ use Rattle.console.proofs.line.Line.text.Statement.{statement}
 use Rattle.console.proofs.line.Line.text.Tie as tie
 
 abbrev Inv-loop : tie.InvT-loop
-Inv-loop self text bytes₀ len₀ i₀ bytes len i =
+Inv-loop self text bytes₀ len₀ lost₀ i₀ bytes len lost i =
     (length bytes ≡ room) × (i ≤ length text) ×
     (self .len + length text ≤ room → (len ≡ self .len + i) × (take len bytes ≡ kept self ++ take i text))
 
 abbrev μ-loop : tie.MeasureT-loop
-μ-loop self text bytes₀ len₀ i₀ bytes len i = length text - i
+μ-loop self text bytes₀ len₀ lost₀ i₀ bytes len lost i = length text - i
 
 loop-holds : tie.Need-loop-holds Inv-loop μ-loop
 loop-holds c = (simp length-map at (c .before .before .good .0 .1 .1 .1 .0 .1 .0 .1), search needs, λ _. begun _ _)
