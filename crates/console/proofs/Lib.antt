@@ -1,3 +1,4 @@
 pub mod LineLaws
+pub mod TextLaws
 pub mod RowLaws
 pub mod PartLaws

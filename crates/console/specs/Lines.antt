@@ -3,7 +3,6 @@ use Prim.Native.Nat.{ℕ, _+_, _≤_}
 use mathlib.Core.List.{List, _++_}
 use mathlib.Core.Path.{_≡_}
 use lib.ListN.{length, take}
-use Rattle.io.specs.Digits.{digits, Fewest}
 use Rattle.console.specs.declared.line.Line.{Line}
 
 -- How many bytes are kept.
@@ -15,9 +14,5 @@ abbrev pub kept : Line → List ℕ
 kept l = take (l .len) (l .bytes)
 
 -- r is the line l and then the text, where there is room for both.
-abbrev pub AddsTo : Line → List ℕ → Line → Type 0
-AddsTo l text r = l .len + length text ≤ room → kept r ≡ kept l ++ text
-
--- r is the line l and then n in decimal, with no more digits than it takes.
-abbrev pub AddsNumber : Line → ℕ → Line → Type 0
-AddsNumber l n r = (k : ℕ) × Fewest 10 1 n k × AddsTo l (digits 10 k n) r
+unfoldable pub AddsTo : Line → List ℕ → Line → Type 0
+AddsTo l text r = l .len + length text ≤ room → (r .len ≡ l .len + length text) × (kept r ≡ kept l ++ text)

@@ -38,7 +38,9 @@ pub fn output_failed(program: &[u8]) {
     os::fail(b": standard output");
 }
 
-pub fn wide(x: u8) -> u64 {
+pub fn wide(x: u8) -> u64
+    ensures { λ r. ⌜ r ≡ x ⌝ }
+{
     x as u64
 }
 

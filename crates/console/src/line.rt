@@ -1,7 +1,10 @@
 // A line that is put together first, so that it is written at once.
 use libc::STDERR_FILENO;
 use libc::STDOUT_FILENO;
-ghost use Rattle.console.specs.Lines.{AddsTo, AddsNumber};
+ghost use mathlib.Core.List.{_++_};
+ghost use mathlib.Core.Path.{_≡_};
+ghost use Rattle.console.specs.Lines.{AddsTo};
+ghost use Rattle.console.specs.Texts.{ascii, decimal, spaced};
 
 // How many bytes are kept; of a longer line these are written as soon as they are full. Each refusal with its sentence has room.
 pub const ROOM: usize = 512;
@@ -17,7 +20,9 @@ pub struct Line {
 
 impl Line {
     // For standard output.
-    pub fn output() -> Line {
+    pub fn output() -> Line
+        ensures { λ r. ⌜ r .len ≡ 0 ⌝ }
+    {
         Line {
             file: STDOUT_FILENO,
             bytes: [0; ROOM],
@@ -76,7 +81,7 @@ impl Line {
     }
 
     pub fn number(self, n: u64) -> Line
-        ensures { λ r. ⌜ AddsNumber self n r ⌝ }
+        ensures { λ r. ⌜ AddsTo self (decimal n) r ⌝ }
     {
         let mut digits = [0u8; 20];
         let k = io::decimal(n, &mut digits);
@@ -84,7 +89,9 @@ impl Line {
     }
 
     // A text and the number of an event, a hart, a location or a rule.
-    pub fn item(self, text: &[u8], n: u8) -> Line {
+    pub fn item(self, text: &[u8], n: u8) -> Line
+        ensures { λ r. ⌜ AddsTo self (now (text .entry) ++ decimal n) r ⌝ }
+    {
         self.text(text).number(super::wide(n))
     }
 
@@ -93,12 +100,16 @@ impl Line {
         self.text(text).number(v as u64)
     }
 
-    pub fn spaced(self, n: u64) -> Line {
+    pub fn spaced(self, n: u64) -> Line
+        ensures { λ r. ⌜ AddsTo self (ascii " " ++ decimal n) r ⌝ }
+    {
         self.text(b" ").number(n)
     }
 
     // A space and a number for each byte.
-    pub fn list(self, bytes: &[u8]) -> Line {
+    pub fn list(self, bytes: &[u8]) -> Line
+        ensures { λ r. ⌜ AddsTo self (spaced (now (bytes .entry))) r ⌝ }
+    {
         let mut line = self;
         let mut i: usize = 0;
         while i < bytes.len() {

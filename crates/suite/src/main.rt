@@ -5,18 +5,24 @@ use console::Line;
 use edition::EditionOne;
 use search::Reply;
 use witness_walk::Outcome;
+ghost use mathlib.Core.Path.{_≡_};
+ghost use Rattle.witness_walk.specs.Outcome.{outcomeOf};
+ghost use Rattle.search.specs.Replies.{replyOf};
+ghost use Rattle.console.specs.Lines.{kept, AddsTo};
+ghost use Rattle.suite.specs.SuiteLine.{visited, answerText, replyText, suiteLine, closingLine};
 
 // How many prefixes a block's search may visit.
 const ALLOWANCE: u64 = 1_000_000;
 
-// The answer buffer's length: no order is longer.
-const ANSWER: usize = 32;
-
-fn visited(line: Line, n: u64) -> Line {
+fn visited(line: Line, n: u64) -> Line
+    ensures { λ r. ⌜ AddsTo line (visited n) r ⌝ }
+{
     line.number(n).text(b" visited")
 }
 
-fn outcome(line: Line, o: Outcome, answer: &[u8]) -> Line {
+fn outcome(line: Line, o: Outcome, answer: &[u8]) -> Line
+    ensures { λ r. ⌜ AddsTo line (answerText (outcomeOf o (now (answer .entry)))) r ⌝ }
+{
     match o {
         Outcome::Found { len, visited: n } => visited(line.text(b"allowed, "), n)
             .text(b", order")
@@ -26,18 +32,28 @@ fn outcome(line: Line, o: Outcome, answer: &[u8]) -> Line {
     }
 }
 
-fn search(line: Line, bytes: &[u8]) -> Line {
-    let mut answer = [0u8; ANSWER];
-    match bench::search(bytes, b"", &mut answer, ALLOWANCE) {
+fn replied(line: Line, reply: Reply, answer: &[u8]) -> Line
+    ensures { λ r. ⌜ AddsTo line (replyText (replyOf reply (now (answer .entry)))) r ⌝ }
+{
+    match reply {
         Reply::Refused(r) => line.item(b"refused ", words::number(r)),
-        Reply::Answered(o) => outcome(line, o, &answer),
+        Reply::Answered(o) => outcome(line, o, answer),
     }
+}
+
+// The line of block k, before it ends. No order is longer than the answer buffer.
+fn decided(k: u64, bytes: &[u8]) -> Line
+    ensures { λ r. ⌜ kept r ≡ suiteLine k (now (bytes .entry)) ⌝ }
+{
+    let mut answer = [0u8; EditionOne::EVENTS];
+    let reply = bench::search(bytes, b"", &mut answer, ALLOWANCE);
+    let begun = Line::output().text(b"block ").number(k).text(b": ");
+    replied(begun, reply, &answer)
 }
 
 // The line of block k; false if it was lost, which standard error then says.
 fn line(k: u64, bytes: &[u8]) -> bool {
-    let begun = Line::output().text(b"block ").number(k).text(b": ");
-    let written = search(begun, bytes).end();
+    let written = decided(k, bytes).end();
     if !written {
         console::output_failed(b"suite");
     }
@@ -71,8 +87,15 @@ fn turn(k: u64) -> Effect {
     }
 }
 
-fn last(k: u64) {
-    if !Line::output().number(k).text(b" blocks").end() {
+// After n blocks.
+fn closing(n: u64) -> Line
+    ensures { λ r. ⌜ kept r ≡ closingLine n ⌝ }
+{
+    Line::output().number(n).text(b" blocks")
+}
+
+fn last(n: u64) {
+    if !closing(n).end() {
         console::output_failed(b"suite");
     }
 }

@@ -1,17 +1,25 @@
-use Prim.Native.Nat.{_-_}
-use lib.ListN.{length}
+use Prim.Native.Nat.{_-_, _≤_}
+use lib.ListN.{length, take}
+use lib.Seq.{take-all}
+use mathlib.Core.Path.{ap}
+use Rattle.console.proofs.TextLaws.{one-more}
+use native.Mathlib.Omega.{arith}
+use Rattle.console.specs.Lines.{AddsTo}
+use Rattle.console.specs.Texts.{spaced}
+use Rattle.console.proofs.LineLaws.{then, same-text, nothing}
 use borrow.Author.Needs.{needs}
 use Rattle.console.proofs.line.Line.list.Statement.{statement}
 use Rattle.console.proofs.line.Line.list.Tie as tie
 
 abbrev Inv-loop : tie.InvT-loop
-Inv-loop bytes line₀ i₀ line i = Unit {0}
+Inv-loop bytes line₀ i₀ line i = (i ≤ length bytes) × AddsTo line₀ (spaced (take i bytes)) line
 
 abbrev μ-loop : tie.MeasureT-loop
 μ-loop bytes line₀ i₀ line i = length bytes - i
 
 loop-holds : tie.Need-loop-holds Inv-loop μ-loop
-loop-holds c = search needs
+unfolding spaced
+loop-holds c = (search needs, nothing _)
 
 shared-slice-read-wide : tie.Need-shared-slice-read-wide Inv-loop μ-loop
 shared-slice-read-wide c = search needs
@@ -29,10 +37,14 @@ loop-less : tie.Need-loop-less Inv-loop μ-loop
 loop-less c = search needs
 
 loop-again : tie.Need-loop-again Inv-loop μ-loop
-loop-again c = search needs
+loop-again c =
+    let v = c .before .before .before .before .loop in
+    (omega arith, same-text _ _ (one-more _ (v .i) _ (omega arith) (c .before .wide .ensures)) (then _ _ _ _ _ (v .inv .1) (c .spaced .ensures)))
 
 returns : tie.Need-returns Inv-loop μ-loop
-returns c = search needs
+returns c =
+    let v = c .before .loop in
+    same-text _ _ (ap spaced (take-all (v .i) _ (omega arith))) (v .inv .1)
 
 pub list-spec : {M : Type 1} → statement M
 list-spec =

@@ -1,7 +1,7 @@
-use Rattle.console.specs.Lines.{AddsTo}
-use Prim.Native.Nat.{ℕ}
-use mathlib.Core.List.{List}
-use mathlib.Core.Path.{subst}
+use mathlib.Core.Path.{_∙_}
+use native.Mathlib.Omega.{arith}
+use Rattle.console.proofs.LineLaws.{same-text}
+use Rattle.console.proofs.TextLaws.{fewest, places}
 use borrow.Author.Needs.{needs}
 use Rattle.console.proofs.line.Line.number.Statement.{statement}
 use Rattle.console.proofs.line.Line.number.Tie as tie
@@ -21,7 +21,7 @@ text-requires c κs = search needs
 returns : tie.Need-returns
 returns c =
     let d = c .before .before .decimal in
-    (d .result, d .ensures .1 .0, subst (λ (xs : List ℕ). AddsTo (c .before .before .before .before .args .self) xs (c .text .result)) (d .ensures .1 .1) (c .text .ensures))
+    same-text _ _ (d .ensures .1 .1 ∙ fewest 20 (d .result) _ (places _ _ (c .before .before .before .before .fits .n .fits) (d .ensures .1 .0)) (d .ensures .1 .0)) (c .text .ensures)
 
 pub number-spec : {M : Type 1} → statement M
 number-spec =

@@ -7,7 +7,7 @@ use Prim.Native.Nat.{_+_, _-_, _≤_}
 use mathlib.Core.List.{_++_}
 use mathlib.Core.Path.{_≡_}
 use lib.ListN.{length, take}
-use Rattle.console.specs.Lines.{room, kept}
+use Rattle.console.specs.Lines.{room, kept, AddsTo}
 use borrow.Author.Needs.{needs}
 use Rattle.console.proofs.line.Line.text.Statement.{statement}
 use Rattle.console.proofs.line.Line.text.Tie as tie
@@ -56,11 +56,14 @@ loop-again c =
     )
 
 returns : tie.Need-returns Inv-loop μ-loop
+unfolding AddsTo
 returns c =
     let args = c .before .before .before .before .before .args in
     let text = args .text .now in
     let v = c .before .before .loop in
-    λ fits. whole (v .bytes) (kept (args .self)) text (v .len) (v .i) (omega arith) (v .inv .2 fits .1)
+    λ fits.
+    let e = v .inv .2 fits in
+    (omega (arith, e .0), whole (v .bytes) (kept (args .self)) text (v .len) (v .i) (omega arith) (e .1))
 
 pub text-spec : {M : Type 1} → statement M
 text-spec =

@@ -1,0 +1,56 @@
+use Prim.Native.Nat.{ℕ}
+use mathlib.Core.List.{_++_}
+use mathlib.Core.Path.{sym, ap, _∙_}
+use Rattle.search.specs.declared.Reply.{Reply}
+use Rattle.search.specs.Replies.{replyOf}
+use Rattle.console.specs.Texts.{ascii, decimal}
+use Rattle.console.proofs.LineLaws.{same-text}
+use Rattle.suite.specs.SuiteLine.{replyText}
+use borrow.Author.Needs.{needs}
+use Rattle.suite.proofs.replied.Statement.{statement}
+use Rattle.suite.proofs.replied.Tie as tie
+
+enum-known-reply : tie.Need-enum-known-reply
+enum-known-reply c = search needs
+
+slice-aggregate-item : tie.Need-slice-aggregate-item
+slice-aggregate-item c = search needs
+
+number-requires : tie.Need-number-requires
+number-requires c κs = search needs
+
+item-requires : tie.Need-item-requires
+item-requires c κs = search needs
+
+enum-known-reply-2 : tie.Need-enum-known-reply-2
+enum-known-reply-2 c = search needs
+
+outcome-requires : tie.Need-outcome-requires
+outcome-requires c κs = search needs
+
+returns : tie.Need-returns
+returns c =
+    let known = c .before .before .before .before in
+    same-text _ _
+    (ap (λ (n : ℕ). ascii "refused " ++ decimal n) (c .before .number .ensures)
+    ∙ sym (ap (λ (x : Reply). replyText (replyOf x (known .before .before .before .args .answer .now))) (known .reply .given .1)))
+    (c .item .ensures)
+
+returns-2 : tie.Need-returns-2
+returns-2 c =
+    let known = c .before .before in
+    same-text _ _ (sym (ap (λ (x : Reply). replyText (replyOf x (known .before .before .before .args .answer .now))) (known .reply2 .given .1)))
+    (c .outcome .ensures)
+
+pub replied-spec : {M : Type 1} → statement M
+replied-spec =
+    tie.close
+    (tie.spec
+    enum-known-reply
+    slice-aggregate-item
+    number-requires
+    item-requires
+    enum-known-reply-2
+    outcome-requires
+    returns
+    returns-2)
