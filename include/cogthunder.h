@@ -11,8 +11,8 @@
  *
  * The word
  * --------
- * All functions but ct_table_of and ct_blocks answer by one word. Byte 0, the lowest, is the case; bytes that the table
- * doesn't name are 0. A set of rules is in bytes 4 and 5: bit r - 1, counted from the lowest of byte 4, is rule r, from 1
+ * All functions but ct_table_of and ct_blocks answer by one word, ct_part_of by one in a struct. Byte 0, the lowest, is the
+ * case; bytes that the table doesn't name are 0. A set of rules is in bytes 4 and 5: bit r - 1, counted from the lowest of byte 4, is rule r, from 1
  * to 13.
  *
  *   case                   byte 1              byte 2                      byte 3        bytes 4 to 7
@@ -170,8 +170,21 @@ uint64_t ct_returns(const uint8_t *block, size_t block_len, const uint8_t *order
 uint64_t ct_search(const uint8_t *block, size_t block_len, const uint8_t *start, size_t start_len, uint8_t *out,
                    size_t out_len, uint64_t allowance);
 
-/* How many blocks a suite has; a last part block counts. Block k begins at byte CT_BLOCK * k. */
+/* How many blocks a suite has; a last part block counts. */
 uint64_t ct_blocks(const uint8_t *suite, size_t suite_len);
+
+/* Where a block stands in its suite: `length` bytes from `suite + offset` on. Both are 0 where the word is a refusal. */
+struct ct_part {
+    uint64_t word;
+    uint64_t offset;
+    uint64_t length;
+};
+
+/*
+ * Block k of a suite, for any k. Case 0: it is in the suite, and a last part block is shorter than CT_BLOCK. Case 1: refusal
+ * 18 if the suite has no block k.
+ */
+struct ct_part ct_part_of(const uint8_t *suite, size_t suite_len, uint64_t k);
 
 #ifdef __cplusplus
 }

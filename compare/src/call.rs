@@ -5,6 +5,10 @@ use cogthunder::{Answer, Axiom, Event, Refusal, Rules, Table, Verdict, Witnesses
 use oracle::raw::{RawEvent, RawTable};
 use oracle::search::MAX_ALLOWANCE;
 use std::fmt;
+use std::ops::Range;
+
+/// "Block number not in the suite".
+const NOT_IN_SUITE: u8 = 18;
 
 /// A block, and which entry is called with it. The block is empty if that is the writer.
 #[derive(Clone, PartialEq, Eq, Debug)]
@@ -40,6 +44,10 @@ pub enum Entry {
         allowance: u64,
     },
     Blocks,
+    /// Block k of the suite that `block` then is.
+    Part {
+        k: u64,
+    },
     /// All witnesses after a start, by the iterator: it is resumed after some search calls with the given allowance.
     Witnesses {
         start: Vec<u8>,
@@ -57,6 +65,7 @@ pub enum Reply {
     Rules(Rules),
     Searched(Answer),
     Blocks(u64),
+    Part(Range<usize>),
     Witnesses { orders: Vec<Vec<u8>>, visited: u64 },
 }
 
@@ -121,6 +130,9 @@ impl Library {
                     .map_or_else(Reply::from, Reply::Searched)
             }
             Entry::Blocks => Reply::Blocks(cogthunder::blocks(block)),
+            Entry::Part { k } => {
+                cogthunder::part(block, *k).map_or_else(Reply::from, |part| Reply::Part(place_in(block, part)))
+            }
             Entry::Witnesses { start, allowance, steps } => {
                 walk(block, self.first.lend(start), *allowance, *steps).unwrap_or_else(Reply::from)
             }
@@ -148,7 +160,7 @@ impl Entry {
     /// The lists that are lent beside the block, and must stay as they are.
     fn inputs(&self) -> (Option<&[u8]>, Option<&[u8]>) {
         match self {
-            Entry::Read | Entry::Write { .. } | Entry::Blocks => (None, None),
+            Entry::Read | Entry::Write { .. } | Entry::Blocks | Entry::Part { .. } => (None, None),
             Entry::Verdict { returned, order } => (Some(returned), Some(order)),
             Entry::Rules { returned: list, .. }
             | Entry::Returns { order: list, .. }
@@ -173,6 +185,12 @@ impl Bench for Library {
         let out = call.entry.out().map_or_else(Vec::new, |_| self.second.now().to_vec());
         Outcome { reply, out, altered }
     }
+}
+
+/// Where a part of the bytes stands in them.
+fn place_in(bytes: &[u8], part: &[u8]) -> Range<usize> {
+    let from = part.as_ptr() as usize - bytes.as_ptr() as usize;
+    from..from + part.len()
 }
 
 /// Walks by the iterator: after some search calls it is thrown away, and another one resumed where it stood.
@@ -221,6 +239,12 @@ fn reference_reply(call: &Call, buffer: &mut [u8]) -> Reply {
         Entry::Search { start, allowance, .. } => oracle::search::search(block, start, buffer, *allowance)
             .map_or_else(Reply::from, |answer| Reply::Searched(same_answer(&answer))),
         Entry::Blocks => Reply::Blocks(block.chunks(oracle::layout::BLOCK_LENGTH).len() as u64),
+        Entry::Part { k } => {
+            let part = usize::try_from(*k).ok().and_then(|k| block.chunks(oracle::layout::BLOCK_LENGTH).nth(k));
+            part.map_or(Reply::Refused { number: NOT_IN_SUITE, record: None }, |part| {
+                Reply::Part(place_in(block, part))
+            })
+        }
         Entry::Witnesses { start, .. } => reference_walk(block, start).unwrap_or_else(Reply::from),
     }
 }
@@ -300,6 +324,7 @@ impl Entry {
             Entry::Returns { .. } => "returns",
             Entry::Search { .. } => "search",
             Entry::Blocks => "blocks",
+            Entry::Part { .. } => "part",
             Entry::Witnesses { .. } => "witnesses",
         }
     }

@@ -325,13 +325,18 @@ fn random_bytes(prng: &mut Prng, comparison: &mut Comparison) -> Result<(), Box<
     every_entry(prng, &mut Calls { comparison, block }, &table)
 }
 
-/// How many blocks a suite of any length has.
+/// How many blocks a suite of any length has, and where they stand: the first, the last or the next, and one whose offset no
+/// number of 64 bits has.
 fn suite(prng: &mut Prng, comparison: &mut Comparison) -> Result<(), Box<Difference>> {
     let length = prng.below(LONGEST_SUITE);
     let edge = BLOCK_LENGTH * prng.below(LONGEST_SUITE / BLOCK_LENGTH);
     for length in [length, edge, edge + 1, (edge + BLOCK_LENGTH) - 1] {
         let mut calls = Calls { comparison: &mut *comparison, block: some_bytes(prng, length) };
         calls.call(Entry::Blocks)?;
+        let whole = length / BLOCK_LENGTH;
+        for k in [0, whole.saturating_sub(1), whole, usize::MAX / BLOCK_LENGTH + 1] {
+            calls.call(Entry::Part { k: k as u64 })?;
+        }
     }
     Ok(())
 }

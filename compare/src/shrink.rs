@@ -84,7 +84,7 @@ fn without_event(call: &Call, k: usize) -> Call {
         Entry::Returns { order, out } => Entry::Returns { order: list(&order), out },
         Entry::Search { start, out, allowance } => Entry::Search { start: list(&start), out, allowance },
         Entry::Witnesses { start, allowance, steps } => Entry::Witnesses { start: list(&start), allowance, steps },
-        entry @ (Entry::Read | Entry::Write { .. } | Entry::Blocks) => entry,
+        entry @ (Entry::Read | Entry::Write { .. } | Entry::Blocks | Entry::Part { .. }) => entry,
     };
     Call { block, entry }
 }
@@ -121,6 +121,7 @@ fn smaller_entries(entry: &Entry) -> Vec<Entry> {
     let mut entries = Vec::new();
     match entry {
         Entry::Read | Entry::Blocks => {}
+        Entry::Part { k } => entries.extend(smaller_numbers(*k).map(|k| Entry::Part { k })),
         Entry::Write { table, out } => {
             let with = |table, out: &[u8]| Entry::Write { table: Box::new(table), out: out.to_vec() };
             entries.extend(smaller_tables(table).into_iter().map(|table| with(table, out)));

@@ -5,8 +5,8 @@ use cogthunder::{Answer, Axiom, Rules};
 use std::collections::BTreeMap;
 use std::fmt;
 
-/// What a search or a reading of a block can be refused by.
-const REFUSALS: std::ops::RangeInclusive<u8> = 1..=17;
+/// What a call can be refused by.
+const REFUSALS: std::ops::RangeInclusive<u8> = 1..=18;
 /// What a table can be refused by.
 const TABLE_REFUSALS: [u8; 8] = [1, 5, 6, 7, 8, 9, 10, 11];
 const RULES: std::ops::RangeInclusive<u8> = 1..=13;
@@ -69,7 +69,7 @@ impl Tally {
             Reply::Rules(rules) => self.count_rules(*rules),
             Reply::Good if call.entry.name() == "verdict" => *self.verdicts.entry(VERDICTS[0]).or_default() += 1,
             Reply::Searched(answer) => *self.searches.entry(search_name(answer)).or_default() += 1,
-            Reply::Good | Reply::Table(_) | Reply::Blocks(_) | Reply::Witnesses { .. } => {}
+            Reply::Good | Reply::Table(_) | Reply::Blocks(_) | Reply::Part(_) | Reply::Witnesses { .. } => {}
         }
     }
 

@@ -38,7 +38,7 @@ mod table;
 mod witnesses;
 
 pub use answers::{Answer, Axiom, Refusal, Verdict};
-pub use library::{blocks, read, returns, rules, search, verdict, write};
+pub use library::{blocks, part, read, returns, rules, search, verdict, write};
 pub use operation::Operation;
 pub use rules::Rules;
 pub use table::{Accesses, Annotation, Event, Table};

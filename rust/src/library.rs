@@ -42,6 +42,16 @@ extern "C" {
     ) -> u64;
 
     fn ct_blocks(suite: *const u8, suite_len: usize) -> u64;
+
+    fn ct_part_of(suite: *const u8, suite_len: usize, k: u64) -> Part;
+}
+
+/// Where a block stands in its suite, or the word of its refusal.
+#[repr(C)]
+struct Part {
+    word: u64,
+    offset: u64,
+    length: u64,
 }
 
 /// A table is passed by value: an event ends with two bytes of padding, and there is no other, as in the C header.
@@ -236,17 +246,38 @@ pub fn search(block: &[u8], start: &[u8], out: &mut [u8], allowance: u64) -> Res
     })
 }
 
-/// How many blocks a suite has; a last part block counts. Block k begins at byte 512 k.
+/// How many blocks a suite has; a last part block counts.
 ///
 /// ```
+/// use cogthunder::{blocks, part, read};
+///
 /// let block = include_bytes!(concat!(env!("CARGO_MANIFEST_DIR"), "/../samples/C1.block"));
 /// let suite = [&block[..], &block[..], &block[..100]].concat();
-/// assert_eq!(cogthunder::blocks(&suite), 3);
-/// let tests: Vec<bool> = suite.chunks(cogthunder::BLOCK).map(|block| cogthunder::read(block).is_ok()).collect();
-/// assert_eq!(tests, [true, true, false]);
+/// assert_eq!(blocks(&suite), 3);
+/// let good: Vec<bool> = (0..3).map(|k| part(&suite, k).and_then(read).is_ok()).collect();
+/// assert_eq!(good, [true, true, false]);
 /// ```
 pub fn blocks(suite: &[u8]) -> u64 {
     unsafe { ct_blocks(suite.as_ptr(), suite.len()) }
+}
+
+/// Block `k` of a suite, as that part of its bytes: a last part block is shorter than [`BLOCK`](crate::BLOCK), and none is
+/// empty. It is refused by 18 if the suite has no block `k`.
+///
+/// ```
+/// use cogthunder::{part, BLOCK};
+///
+/// let suite = [7; BLOCK + 1];
+/// assert_eq!(part(&suite, 0), Ok(&suite[..BLOCK]));
+/// assert_eq!(part(&suite, 1), Ok(&suite[BLOCK..]));
+/// assert_eq!(part(&suite, 2).unwrap_err().number, 18);
+/// assert_eq!(part(&suite, u64::MAX).unwrap_err().number, 18);
+/// ```
+pub fn part(suite: &[u8], k: u64) -> Result<&[u8], Refusal> {
+    let part = unsafe { ct_part_of(suite.as_ptr(), suite.len(), k) };
+    parts(part.word)?;
+    // Both are within the suite, whose length is a `usize`.
+    Ok(&suite[part.offset as usize..][..part.length as usize])
 }
 
 #[cfg(test)]

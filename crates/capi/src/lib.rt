@@ -1,4 +1,6 @@
 // The bench for C: each entry on bytes, with its answer in one word of 64 bits. Nothing is required of a caller.
+use edition::EditionOne;
+use refusals::Refusal;
 use table::Table;
 ghost use mathlib.Core.Path.{_≡_};
 ghost use Rattle.block.specs.Reading.{readRefusal, readTable};
@@ -8,6 +10,7 @@ ghost use Rattle.bench.specs.Candidate.{verdictOf, returnsRefusal, returnsBuffe
 ghost use Rattle.bench.specs.PairRules.{rulesOf};
 ghost use Rattle.bench.specs.Search.{searchReply, searchBuffer};
 ghost use Rattle.answer_word.specs.Words.{refusalWord, judgedWord, ruledWord, replyWord};
+ghost use Rattle.capi.specs.Parts.{partRefusal, partOffset, partLength};
 
 // Reading a block.
 #[no_mangle]
@@ -77,4 +80,38 @@ pub extern "C" fn ct_blocks(suite: &[u8]) -> u64
     ensures { λ r. ⌜ r ≡ blockCount (now (suite .entry)) ⌝ }
 {
     bench::blocks(suite) as u64
+}
+
+// "block number not in the suite"
+const NOT_IN_SUITE: u8 = 18;
+
+// Where block k stands in its suite, or the word of its refusal.
+#[repr(C)]
+pub struct Part {
+    pub word: u64,
+    pub offset: u64,
+    pub length: u64,
+}
+
+// Block k of a suite; a last part block counts.
+#[no_mangle]
+pub extern "C" fn ct_part_of(suite: &[u8], k: u64) -> Part
+    ensures { λ r. ⌜ r .word ≡ refusalWord (partRefusal (now (suite .entry)) k) ⌝ }
+    ensures { λ r. ⌜ r .offset ≡ partOffset (now (suite .entry)) k ⌝ }
+    ensures { λ r. ⌜ r .length ≡ partLength (now (suite .entry)) k ⌝ }
+{
+    let block = bench::part(suite, k as usize);
+    if block.len() == 0 {
+        Part {
+            word: answer_word::refusal_word(Refusal::Line(NOT_IN_SUITE)),
+            offset: 0,
+            length: 0,
+        }
+    } else {
+        Part {
+            word: answer_word::refusal_word(Refusal::None),
+            offset: EditionOne::BLOCK as u64 * k,
+            length: block.len() as u64,
+        }
+    }
 }
