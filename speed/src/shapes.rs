@@ -97,6 +97,12 @@ fn free(loads: impl Fn(u8) -> u8) -> Table {
     ring(hart).table()
 }
 
+/// Loads that nothing orders. Each but the last reads what it finds, so that the test of an order's values fails late.
+fn loads(count: u8) -> Table {
+    let value = |k: u8| if k + 1 == count { NEVER } else { 0 };
+    (0..count).fold(Builder::default(), |b, k| b.with(load(k % HARTS, X, value(k)))).table()
+}
+
 fn chains() -> Table {
     ring(|b, h| (1..=4).fold(b, |b, value| b.with(store(h, h, value)))).finally(W, 1).table()
 }
@@ -167,6 +173,8 @@ pub fn timed() -> Vec<(&'static str, Table)> {
     vec![
         ("9 free events", free(|h| if h == 0 { 2 } else { 1 })),
         ("12 free events", free(|_| 2)),
+        ("12 loads, the last wrong", loads(12)),
+        ("16 loads, the last wrong", loads(16)),
         ("four chains of four", chains()),
         ("MP, fences", message_passing(Link::Fence, Link::Fence)),
         ("SB ring of 4, fences", store_buffering(Link::Fence, 0)),
