@@ -7,7 +7,8 @@
  * refusal alters none at all. A pointer must be valid for the length that follows it, and must not be null, also where
  * that length is 0. `out` must not overlap another argument. No function keeps a pointer, allocates, or has a state.
  *
- * A test is a block of 512 bytes. Events are numbered from 0 in the order of the table, locations from 0.
+ * A test is a block of 512 bytes; docs/FORMAT.md has its fields, the lists and the word, with an example worked in hex.
+ * Events are numbered from 0 in the order of the table, locations from 0.
  *
  * The word
  * --------
@@ -99,7 +100,7 @@ struct ct_event {
     uint8_t kind;      /* 1 load, 2 store, 3 AMO, 4 LR, 5 SC, 6 fence, 7 fence.tso */
     uint8_t hart;
     uint8_t location;
-    uint8_t flags;     /* as in a block */
+    uint8_t flags;     /* as in a block (docs/FORMAT.md) */
     uint32_t addr;     /* mask of the events that the address depends on */
     uint32_t data;     /* .. that the data depend on */
     uint32_t ctrl;     /* .. that it has a control dependency on */
