@@ -1,27 +1,27 @@
 -- The word of the code's reply to a search call, whose length stands for the prefix in the buffer; and what has room in it.
 use Prim.Native.Nat.{ℕ, _^_, _<_}
 use Rattle.refusals.specs.Refusals.{refusalOf}
-use Rattle.witness_walk.specs.declared.Outcome.{Outcome}
-use Rattle.witness_walk.specs.declared.Outcome.the-variants.{Found, NoneLeft, Spent}
+use Rattle.witness_walk.specs.declared.Ending.{Ending}
+use Rattle.witness_walk.specs.declared.Ending.the-variants.{Found, NoneLeft, Spent}
 use Rattle.search.specs.declared.Reply.{Reply}
 use Rattle.search.specs.declared.Reply.the-variants.{Refused, Answered}
 use Rattle.answer_word.specs.Words.{word, refusalWord}
 
-abbrev pub outcomeWord : Outcome → ℕ
-outcomeWord (Found len v) = word 7 len 0 0 v
-outcomeWord (NoneLeft v) = word 8 0 0 0 v
-outcomeWord (Spent len v) = word 9 len 0 0 v
+abbrev pub endingWord : Ending → ℕ
+endingWord (Found len v) = word 7 len 0 0 v
+endingWord (NoneLeft v) = word 8 0 0 0 v
+endingWord (Spent len v) = word 9 len 0 0 v
 
 abbrev pub givenWord : Reply → ℕ
 givenWord (Refused r) = refusalWord (refusalOf r)
-givenWord (Answered o) = outcomeWord o
+givenWord (Answered o) = endingWord o
 
 -- a length below a byte's bound, a visited number below that of four bytes
-abbrev pub OutcomeFits : Outcome → Type 0
-OutcomeFits (Found len v) = (len < 256) × (v < 2 ^ 32)
-OutcomeFits (NoneLeft v) = v < 2 ^ 32
-OutcomeFits (Spent len v) = (len < 256) × (v < 2 ^ 32)
+abbrev pub EndingFits : Ending → Type 0
+EndingFits (Found len v) = (len < 256) × (v < 2 ^ 32)
+EndingFits (NoneLeft v) = v < 2 ^ 32
+EndingFits (Spent len v) = (len < 256) × (v < 2 ^ 32)
 
 abbrev pub GivenFits : Reply → Type 0
 GivenFits (Refused r) = Unit {0}
-GivenFits (Answered o) = OutcomeFits o
+GivenFits (Answered o) = EndingFits o

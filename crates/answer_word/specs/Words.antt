@@ -3,13 +3,10 @@
 use Prim.Native.Nat.{ℕ, _+_, _*_, _-_, _^_}
 use mathlib.Core.List.{List, [], _∷_}
 use lib.ListN.{length, getD}
+use Rattle.lists.specs.Reply.{Reply, refused, answered}
 use Rattle.refusals.specs.Lines.{Refused, accepted, byLine, byRecord}
 use Rattle.model.specs.Verdict.{Verdict, allowed, brokenPpo, brokenLoadValue, brokenAtomicity, brokenValueRead, brokenFinalValue}
-use Rattle.verdict.specs.Judged.{Judged, declined, judged}
-use Rattle.pair_rules.specs.PairRules as pair
-use Rattle.pair_rules.specs.PairRules.{Ruled, ruled}
 use Rattle.prefixes.specs.Answer.{Answer, found, noneLeft, spent}
-use Rattle.prefixes.specs.Walk.{Reply, refused, answered}
 
 unfoldable pub word : (kind a b d visited : ℕ) → ℕ
 word kind a b d visited = kind + 256 * a + 65536 * b + 16777216 * d + 4294967296 * visited
@@ -42,14 +39,14 @@ verdictWord (brokenAtomicity lr writer) = word 4 lr writer 0 0
 verdictWord (brokenValueRead reader) = word 5 reader 0 0 0
 verdictWord (brokenFinalValue location) = word 6 location 0 0 0
 
-abbrev pub judgedWord : Judged → ℕ
-judgedWord (declined r) = refusalWord r
-judgedWord (judged v) = verdictWord v
+abbrev pub judgedWord : Reply Refused Verdict → ℕ
+judgedWord (refused r) = refusalWord r
+judgedWord (answered v) = verdictWord v
 
 -- 0: the set of rules in bytes 4 and 5
-abbrev pub ruledWord : Ruled → ℕ
-ruledWord (pair.declined r) = refusalWord r
-ruledWord (ruled rules) = word 0 0 0 0 (rulesMask rules)
+abbrev pub ruledWord : Reply Refused (List ℕ) → ℕ
+ruledWord (refused r) = refusalWord r
+ruledWord (answered rules) = word 0 0 0 0 (rulesMask rules)
 
 -- 7: found; 8: none left; 9: spent; with the number of entries that were written
 abbrev pub answerWord : Answer → ℕ
@@ -57,6 +54,6 @@ answerWord (found p v) = word 7 (length p) 0 0 v
 answerWord (noneLeft v) = word 8 0 0 0 v
 answerWord (spent p v) = word 9 (length p) 0 0 v
 
-abbrev pub replyWord : Reply Refused → ℕ
+abbrev pub replyWord : Reply Refused Answer → ℕ
 replyWord (refused r) = refusalWord r
 replyWord (answered a) = answerWord a

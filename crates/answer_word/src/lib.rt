@@ -4,7 +4,7 @@ use refusals::Refusal;
 use search::Reply;
 use verdict::Axiom;
 use verdict::Verdict;
-use witness_walk::Outcome;
+use witness_walk::Ending;
 ghost use Prim.Native.Nat.{_^_, _<_};
 ghost use mathlib.Core.Path.{_≡_};
 ghost use Rattle.refusals.specs.Refusals.{refusalOf};
@@ -12,7 +12,7 @@ ghost use Rattle.rule_sets.specs.RuleMask.{rulesIn};
 ghost use Rattle.verdict.specs.Judged.{axiomOf, judgedOf};
 ghost use Rattle.pair_rules.specs.PairRules.{ruledOf};
 ghost use Rattle.answer_word.specs.Words.{word, refusalWord, rulesMask, lowestOf, verdictWord, judgedWord, ruledWord};
-ghost use Rattle.answer_word.specs.Given.{outcomeWord, givenWord, OutcomeFits, GivenFits};
+ghost use Rattle.answer_word.specs.Given.{endingWord, givenWord, EndingFits, GivenFits};
 
 // The case of an answer: byte 0 of its word.
 struct Case;
@@ -123,14 +123,14 @@ pub fn pair_word(pair: PairRules) -> u64
     }
 }
 
-fn outcome_word(outcome: Outcome) -> u64
-    requires { ⌜ OutcomeFits outcome ⌝ }
-    ensures { λ r. ⌜ r ≡ outcomeWord outcome ⌝ }
+fn ending_word(ending: Ending) -> u64
+    requires { ⌜ EndingFits ending ⌝ }
+    ensures { λ r. ⌜ r ≡ endingWord ending ⌝ }
 {
-    match outcome {
-        Outcome::Found { len, visited } => word(Case::FOUND, len as u8, 0, 0, visited),
-        Outcome::NoneLeft { visited } => word(Case::NONE_LEFT, 0, 0, 0, visited),
-        Outcome::Spent { len, visited } => word(Case::SPENT, len as u8, 0, 0, visited),
+    match ending {
+        Ending::Found { len, visited } => word(Case::FOUND, len as u8, 0, 0, visited),
+        Ending::NoneLeft { visited } => word(Case::NONE_LEFT, 0, 0, 0, visited),
+        Ending::Spent { len, visited } => word(Case::SPENT, len as u8, 0, 0, visited),
     }
 }
 
@@ -140,6 +140,6 @@ pub fn reply_word(reply: Reply) -> u64
 {
     match reply {
         Reply::Refused(refusal) => refusal_word(refusal),
-        Reply::Answered(outcome) => outcome_word(outcome),
+        Reply::Answered(ending) => ending_word(ending),
     }
 }

@@ -6,44 +6,44 @@ use mathlib.Core.List.{List, _++_}
 use lib.ListN.{length, drop}
 use lib.Dec.{eqb}
 use borrow.Author.Tests.{lt-ltb, le-ltb, eqb-true, eq-eqb, not-false}
+use Rattle.candidate.specs.Buffers.{written}
+use Rattle.lists.specs.Reply.{Reply, refused, answered}
 use Rattle.lists.proofs.BoolLaws.{or-off}
 use Rattle.lists.proofs.FilledLaws.{length-upTo}
 use Rattle.table.specs.declared.Table.{Table}
 use Rattle.table.specs.Events.{memoryCount}
-use Rattle.refusals.specs.Lines.{Refused, accepted, byLine, firstLine}
+use Rattle.refusals.specs.Lines.{Refused, accepted, byLine, firstLine, unless, replyUnless}
 use Rattle.refusals.proofs.LineLaws.{none-here, whole-here, whole-next}
 use Rattle.model.specs.Returns.{returnEntry, returns}
-use Rattle.model.specs.Verdict.{verdict}
+use Rattle.model.specs.Verdict.{verdict, Verdict}
 use Rattle.candidate.specs.CandidateLines.{orderLengthWrong, returnedLengthWrong, orderWrong, returnedWrong, returnsTooShort}
-use Rattle.candidate.specs.Buffers.{writtenUnless}
-use Rattle.verdict.specs.Judged.{Judged, declined, judged}
-use Rattle.answers.specs.Candidate.{candidateLines, judgedUnless, orderLines}
+use Rattle.answers.specs.Candidate.{candidateLines, orderLines}
 
 -- The lines of a candidate, told one by one.
 module _ (t : Table) (rf gmo : List ℕ) where
-  abbrev pub JudgedAs : Judged → Type 0
-  JudgedAs j = j ≡ judgedUnless (firstLine (t .count) (candidateLines t rf gmo)) (judged (verdict t rf gmo))
+  abbrev pub JudgedAs : Reply Refused Verdict → Type 0
+  JudgedAs j = j ≡ replyUnless (firstLine (t .count) (candidateLines t rf gmo)) (verdict t rf gmo)
 
-  refused-by : (n : ℕ) → byLine n ≡ firstLine (t .count) (candidateLines t rf gmo) → JudgedAs (declined (byLine n))
-  refused-by n e = ap (λ (r : Refused). judgedUnless r (judged (verdict t rf gmo))) e
+  refused-by : (n : ℕ) → byLine n ≡ firstLine (t .count) (candidateLines t rf gmo) → JudgedAs (refused (byLine n))
+  refused-by n e = ap (λ (r : Refused). replyUnless r (verdict t rf gmo)) e
 
-  pub judge-12 : (orderLengthWrong t gmo || returnedLengthWrong t rf) ≡ true → JudgedAs (declined (byLine 12))
+  pub judge-12 : (orderLengthWrong t gmo || returnedLengthWrong t rf) ≡ true → JudgedAs (refused (byLine 12))
   unfolding candidateLines
   judge-12 a = refused-by 12 (whole-here _ _ _ _ a)
 
-  pub judge-13 : (orderLengthWrong t gmo || returnedLengthWrong t rf) ≡ false → orderWrong t gmo ≡ true → JudgedAs (declined (byLine 13))
+  pub judge-13 : (orderLengthWrong t gmo || returnedLengthWrong t rf) ≡ false → orderWrong t gmo ≡ true → JudgedAs (refused (byLine 13))
   unfolding candidateLines
   judge-13 a b = refused-by 13 (whole-next _ _ _ _ _ a (whole-here _ _ _ _ b))
 
   module _ (a : (orderLengthWrong t gmo || returnedLengthWrong t rf) ≡ false) (b : orderWrong t gmo ≡ false) where
-    pub judge-14 : returnedWrong t rf ≡ true → JudgedAs (declined (byLine 14))
+    pub judge-14 : returnedWrong t rf ≡ true → JudgedAs (refused (byLine 14))
     unfolding candidateLines
     judge-14 d = refused-by 14 (whole-next _ _ _ _ _ a (whole-next _ _ _ _ _ b (whole-here _ _ _ _ d)))
 
-    pub judge-none : returnedWrong t rf ≡ false → (j : Judged) → j ≡ judged (verdict t rf gmo) → JudgedAs j
+    pub judge-none : returnedWrong t rf ≡ false → (j : Reply Refused Verdict) → j ≡ answered (verdict t rf gmo) → JudgedAs j
     unfolding candidateLines
     judge-none d j e =
-        e ∙ ap (λ (r : Refused). judgedUnless r (judged (verdict t rf gmo)))
+        e ∙ ap (λ (r : Refused). replyUnless r (verdict t rf gmo))
         (whole-next _ _ _ _ _ a (whole-next _ _ _ _ _ b (whole-next _ _ _ _ _ d (none-here _))))
 
 -- The lines of an order whose returned list is asked for.
@@ -51,10 +51,10 @@ module _ (t : Table) (gmo out : List ℕ) where
   -- a refusal and a buffer are those of the lines
   abbrev pub DeterminedAs : Refused → List ℕ → Type 0
   DeterminedAs r after =
-      (r ≡ firstLine (t .count) (orderLines t gmo out)) × (after ≡ writtenUnless (firstLine (t .count) (orderLines t gmo out)) (returns t gmo) out)
+      (r ≡ firstLine (t .count) (orderLines t gmo out)) × (after ≡ unless (firstLine (t .count) (orderLines t gmo out)) (written (returns t gmo) out) out)
 
   left-alone : (n : ℕ) → byLine n ≡ firstLine (t .count) (orderLines t gmo out) → DeterminedAs (byLine n) out
-  left-alone n e = (e, ap (λ (r : Refused). writtenUnless r (returns t gmo) out) e)
+  left-alone n e = (e, ap (λ (r : Refused). unless r (written (returns t gmo) out) out) e)
 
   pub determine-12 : orderLengthWrong t gmo ≡ true → DeterminedAs (byLine 12) out
   unfolding orderLines
@@ -74,7 +74,7 @@ module _ (t : Table) (gmo out : List ℕ) where
     determine-none d after e = (
       none,
       e ∙ ap (λ (n : ℕ). returns t gmo ++ drop n out) (sym (length-upTo (t .count) (returnEntry t gmo)))
-          ∙ ap (λ (r : Refused). writtenUnless r (returns t gmo) out) none,
+          ∙ ap (λ (r : Refused). unless r (written (returns t gmo) out) out) none,
     )
       where
         none : accepted ≡ firstLine (t .count) (orderLines t gmo out)
@@ -97,5 +97,5 @@ module _ (t : Table) (gmo out : List ℕ) (n : ℕ) (e : n ≡ memoryCount t) (h
   pub refused-13 : byLine 13 ≡ firstLine (t .count) (orderLines t gmo out)
   refused-13 = told-13 .0
 
-  pub left-13 : out ≡ writtenUnless (firstLine (t .count) (orderLines t gmo out)) (returns t gmo) out
+  pub left-13 : out ≡ unless (firstLine (t .count) (orderLines t gmo out)) (written (returns t gmo) out) out
   left-13 = told-13 .1

@@ -3,28 +3,28 @@ use refusals::Refusal;
 use table::Table;
 use verdict::Verdict;
 ghost use mathlib.Core.Path.{_≡_};
-ghost use Rattle.refusals.specs.Lines.{firstLine};
+ghost use Rattle.refusals.specs.Lines.{firstLine, unless, replyUnless};
 ghost use Rattle.refusals.specs.Refusals.{refusalOf};
 ghost use Rattle.table.specs.Events.{memoryCount};
 ghost use Rattle.model.specs.Returns.{returns};
 ghost use Rattle.model.specs.Verdict.{verdict};
-ghost use Rattle.precedence.specs.Counts.{Small};
-ghost use Rattle.verdict.specs.Judged.{judged, judgedOf};
-ghost use Rattle.candidate.specs.Buffers.{writtenUnless};
-ghost use Rattle.answers.specs.Candidate.{candidateLines, judgedUnless, orderLines};
+ghost use Rattle.table.specs.Counts.{Small};
+ghost use Rattle.verdict.specs.Judged.{judgedOf};
+ghost use Rattle.candidate.specs.Buffers.{written};
+ghost use Rattle.answers.specs.Candidate.{candidateLines, orderLines};
 
 // The number of memory events.
 fn total(t: Table) -> usize
     requires { ⌜ Small t ⌝ }
     ensures { λ r. ⌜ r ≡ memoryCount t ⌝ }
 {
-    u32::count_ones(precedence::memory_mask(t)) as usize
+    u32::count_ones(table::memory_mask(t)) as usize
 }
 
 // The verdict for a candidate of a table: 12, 13, 14, then the first axiom that is broken.
 pub fn judge(t: Table, returned: &[u8], order: &[u8]) -> Verdict
     requires { ⌜ Small t ⌝ }
-    ensures { λ r. ⌜ judgedOf r ≡ judgedUnless (firstLine (t .count) (candidateLines t (now (returned .entry)) (now (order .entry)))) (judged (verdict t (now (returned .entry)) (now (order .entry)))) ⌝ }
+    ensures { λ r. ⌜ judgedOf r ≡ replyUnless (firstLine (t .count) (candidateLines t (now (returned .entry)) (now (order .entry)))) (verdict t (now (returned .entry)) (now (order .entry))) ⌝ }
 {
     if (order.len() != total(t)) | (returned.len() != t.count as usize) {
         return Verdict::Refused(Refusal::Line(12));
@@ -42,7 +42,7 @@ pub fn judge(t: Table, returned: &[u8], order: &[u8]) -> Verdict
 pub fn determine(t: Table, order: &[u8], out: &mut [u8]) -> Refusal
     requires { ⌜ Small t ⌝ }
     ensures { λ r. ⌜ refusalOf r ≡ firstLine (t .count) (orderLines t (now (order .entry)) (now (out .entry))) ⌝ }
-    ensures { λ r. ⌜ now (out .exit) ≡ writtenUnless (firstLine (t .count) (orderLines t (now (order .entry)) (now (out .entry)))) (returns t (now (order .entry))) (now (out .entry)) ⌝ }
+    ensures { λ r. ⌜ now (out .exit) ≡ unless (firstLine (t .count) (orderLines t (now (order .entry)) (now (out .entry)))) (written (returns t (now (order .entry))) (now (out .entry))) (now (out .entry)) ⌝ }
 {
     if order.len() != total(t) {
         return Refusal::Line(12);

@@ -1,2 +1,1 @@
-pub mod LowestLaws
 pub mod AtomicityLaws

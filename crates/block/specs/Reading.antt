@@ -1,16 +1,16 @@
 -- Reading a block: refusals 1 to 11, and the table.
 use Prim.Native.Nat.{ℕ}
 use mathlib.Core.Bool.{Bool, true, false, _||_, not}
-use mathlib.Core.List.{List, _∷_}
+use mathlib.Core.List.{List, [], _∷_, _++_}
 use lib.ListN.{length, replicate}
 use lib.Dec.{eqb}
-use Rattle.edition.specs.Limits.{editionNumber, maxLocations, blockLength}
+use Rattle.edition.specs.Limits.{editionNumber, maxLocations, maxEvents, blockLength}
 use Rattle.table.specs.declared.Table.{Table}
 use Rattle.table.specs.Events.{capacity, noEvent}
 use Rattle.checksum.specs.Checksum.{checksum}
 use Rattle.decode.specs.Layout.{byteAt, editionAt, storedCheck}
 use Rattle.decode.specs.Decoded.{decoded}
-use Rattle.refusals.specs.Lines.{Refused, accepted, byLine, byRecord, Line, whole, firstLine}
+use Rattle.refusals.specs.Lines.{Refused, Line, whole, firstLine, unless}
 use Rattle.refusals.specs.TableLines.{tableLines}
 use Rattle.zero_bytes.specs.ZeroBytes.{bytesNotZero}
 
@@ -30,10 +30,13 @@ line3 s = not (eqb (byteAt s 0) 0x52) || not (eqb (byteAt s 1) 0x56) || not (eqb
 abbrev pub line4 : List ℕ → Bool
 line4 s = not (eqb (byteAt s editionAt) editionNumber)
 
+-- lines 1 to 4, of the block
+unfoldable pub blockLines : List ℕ → List Line
+blockLines s = whole 1 (line1 s) ∷ whole 2 (line2 s) ∷ whole 3 (line3 s) ∷ whole 4 (line4 s) ∷ []
+
 -- lines 1 to 11, in their order
 unfoldable pub readingLines : List ℕ → List Line
-readingLines s =
-    whole 1 (line1 s) ∷ whole 2 (line2 s) ∷ whole 3 (line3 s) ∷ whole 4 (line4 s) ∷ tableLines (bytesNotZero s) (decoded s)
+readingLines s = blockLines s ++ tableLines maxEvents (bytesNotZero s) (decoded s)
 
 -- the refusal of a block, if any
 unfoldable pub readRefusal : List ℕ → Refused
@@ -53,10 +56,5 @@ noTable =
     }
 
 -- the table if nothing refuses, else the blank one
-abbrev pub tableIf : Refused → Table → Table
-tableIf accepted t = t
-tableIf (byLine n) t = noTable
-tableIf (byRecord n k) t = noTable
-
 unfoldable pub readTable : List ℕ → Table
-readTable s = tableIf (readRefusal s) (decoded s)
+readTable s = unless (readRefusal s) (decoded s) noTable

@@ -8,9 +8,9 @@ ghost use Prim.Native.Nat.{_+_};
 ghost use mathlib.Core.Path.{_≡_};
 ghost use lib.ListN.{length};
 ghost use Rattle.edition.specs.Limits.{blockLength};
-ghost use Rattle.refusals.specs.Lines.{byLine};
+ghost use Rattle.refusals.specs.Lines.{byLine, unless};
 ghost use Rattle.refusals.specs.Refusals.{refusalOf};
-ghost use Rattle.block.specs.Reading.{noTable, tableIf, line3, readRefusal, readTable};
+ghost use Rattle.block.specs.Reading.{noTable, line3, readRefusal, readTable};
 
 pub struct Reading {
     pub refusal: Refusal,
@@ -26,9 +26,9 @@ pub fn no_table() -> Table
         locations: 0,
         count: 0,
         stated: 0,
-        initial: [0; 8],
-        events: [table::no_event(); 32],
-        finals: [0; 8],
+        initial: [0; table::LOCATIONS],
+        events: [table::no_event(); table::CAPACITY],
+        finals: [0; table::LOCATIONS],
     }
 }
 
@@ -43,7 +43,7 @@ fn refused(number: u8) -> Reading
 
 // The table if there is no refusal.
 pub fn table_if(refusal: Refusal, t: Table) -> Reading
-    ensures { λ r. ⌜ (refusalOf (r .refusal) ≡ refusalOf refusal) × (r .table ≡ tableIf (refusalOf refusal) t) ⌝ }
+    ensures { λ r. ⌜ (refusalOf (r .refusal) ≡ refusalOf refusal) × (r .table ≡ unless (refusalOf refusal) t noTable) ⌝ }
 {
     match refusal {
         Refusal::None => Reading {
@@ -83,7 +83,10 @@ fn read_whole(s: &[u8]) -> Reading
         return refused(4);
     }
     let t = decode::decode(s);
-    table_if(table_lines::refuse(t, zero_bytes::bytes_not_zero(s)), t)
+    table_if(
+        table_lines::refuse(t, EditionOne::EVENTS, zero_bytes::bytes_not_zero(s)),
+        t,
+    )
 }
 
 // Any bytes: the lowest refusal of 1 to 11, and the table, which is blank if there is one.

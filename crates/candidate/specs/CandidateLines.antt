@@ -9,7 +9,6 @@ use Rattle.table.specs.declared.Table.{Table}
 use Rattle.table.specs.Events.{reads, writes, sameLocation, memoryCount}
 use Rattle.model.specs.Rules.{nothing, initially, from}
 use Rattle.model.specs.Witness.{isOrder}
-use Rattle.model.specs.Prefixes.{clean}
 
 -- 12: "an order whose length isn't M (the number of memory events)"
 unfoldable pub orderLengthWrong : Table → List ℕ → Bool
@@ -35,9 +34,10 @@ entryWrong t rf e =
 unfoldable pub returnedWrong : Table → List ℕ → Bool
 returnedWrong t rf = some (t .count) (entryWrong t rf)
 
--- 15: "a search's start isn't a clean prefix (below), nor empty" (the empty list is a clean prefix by its definition)
-unfoldable pub startWrong : Table → List ℕ → Bool
-startWrong t start = not (clean t start)
+-- 15: "a search's start isn't a clean prefix (below), nor empty" (the empty list is a clean prefix by its definition); passes:
+-- the test of clean prefixes
+unfoldable pub startWrong : (List ℕ → Bool) → List ℕ → Bool
+startWrong passes start = not (passes start)
 
 -- 16: "answer buffer too short: under M bytes for a search"
 unfoldable pub orderTooShort : Table → List ℕ → Bool

@@ -9,30 +9,30 @@ use borrow.Author.Tests.{ltb-false, not-false}
 use Rattle.lists.specs.Lists.{_∈_}
 use Rattle.lists.specs.Ascending.{less}
 use Rattle.lists.proofs.MemberLaws.{keep-only}
+use Rattle.lists.specs.Reply.{Reply, refused, answered}
 use Rattle.table.specs.declared.Table.{Table}
 use Rattle.table.specs.Events.{memoryEvents, memoryCount}
 use Rattle.decode.specs.Decoded.{decoded}
-use Rattle.refusals.specs.Lines.{Refused, accepted, byLine, byRecord, firstLine}
+use Rattle.refusals.specs.Lines.{Refused, accepted, byLine, byRecord, replyUnless}
 use Rattle.refusals.proofs.LineLaws.{whole-off}
 use Rattle.refusals.proofs.PassedLaws.{passed-both}
 use Rattle.block.specs.Reading.{readingLines, readRefusal}
 use Rattle.prefixes.specs.Listed.{after}
-use Rattle.prefixes.specs.Answer.{Answer, found, noneLeft, spent, answer, pick}
-use Rattle.prefixes.specs.Walk.{Reply, refused, answered}
+use Rattle.prefixes.specs.Answer.{Answer, found, noneLeft, spent, pick}
 use Rattle.prefixes.specs.Statements.{seek}
 use Rattle.prefixes.proofs.AnswerLaws.{seek-answer}
 use Rattle.prefixes.proofs.ListedLaws.{listed-only}
-use Rattle.model.specs.Witness.{witness}
-use Rattle.model.specs.Prefixes.{clean, cleanPrefixes, search}
+use Rattle.model.specs.Witness.{witnessFor, statedOutcome}
+use Rattle.model.specs.Prefixes.{clean, cleanPrefixes, searchBy}
 use Rattle.model.proofs.PrefixLaws.{clean-listed}
 use Rattle.candidate.specs.CandidateLines.{startWrong}
-use Rattle.precedence.specs.Counts.{Small}
-use Rattle.search.specs.Replies.{maxAllowance, startLines, answeredUnless, replyOf, lengthOf, prefixLength}
+use Rattle.table.specs.Counts.{Small}
+use Rattle.search.specs.Replies.{maxAllowance, startLines, replyOf, lengthOf, prefixLength}
 use Rattle.search.proofs.CallLaws.{count-small}
-use Rattle.bench.specs.Search.{searchLines, searchRefusal, searchReply}
+use Rattle.bench.specs.Search.{ofBlock, linesTo, refusalTo, replyTo, searchReply}
 use Rattle.bench.specs.Demands.{Promised}
 use Rattle.bench.proofs.EntryLaws.{small-read}
-use Rattle.witness_walk.specs.declared.Outcome.the-variants.{Found, NoneLeft, Spent}
+use Rattle.witness_walk.specs.declared.Ending.the-variants.{Found, NoneLeft, Spent}
 use Rattle.search.specs.declared.Reply as code
 use Rattle.search.specs.declared.Reply.the-variants.{Refused as Declined, Answered}
 use Rattle.answer_word.specs.Words.{word, replyWord}
@@ -44,7 +44,7 @@ AnswerFits (found p v) = (length p < 256) × (v < 2 ^ 32)
 AnswerFits (noneLeft v) = v < 2 ^ 32
 AnswerFits (spent p v) = (length p < 256) × (v < 2 ^ 32)
 
-abbrev ReplyFits : Reply Refused → Type 0
+abbrev ReplyFits : Reply Refused Answer → Type 0
 ReplyFits (refused r) = Unit {0}
 ReplyFits (answered a) = AnswerFits a
 
@@ -77,25 +77,31 @@ module _ (t : Table) (small : Small t) where
   clean-short (x ∷ p) h = listed-short (x ∷ p) (clean-listed t (x ∷ p) .1 (cons-ne-nil x p, h))
 
   -- the answer from a clean start
-  search-fits : (s : List ℕ) (b : ℕ) → clean t s ≡ true → b ≤ maxAllowance → AnswerFits (search t s b)
-  unfolding search
+  search-fits : (s : List ℕ) (b : ℕ) → clean t s ≡ true → b ≤ maxAllowance → AnswerFits (searchBy t (clean t) (statedOutcome t) s b)
+  unfolding searchBy cleanPrefixes
   search-fits s b h k =
-      subst AnswerFits (sym (seek-answer (witness t) (after s (cleanPrefixes t)) s b))
-      (seek-fits (witness t) (after s (cleanPrefixes t)) s b 0 (clean-short s h)
+      subst AnswerFits (sym (seek-answer goal (after s (cleanPrefixes t)) s b))
+      (seek-fits goal (after s (cleanPrefixes t)) s b 0 (clean-short s h)
       (λ p m. listed-short p (keep-only (less s) (cleanPrefixes t) p m .0)) (omega arith))
+    where
+      goal : List ℕ → Bool
+      goal = witnessFor t (statedOutcome t)
 
 -- the reply of any bytes
 reply-fits : (s start out : List ℕ) (b : ℕ) → ReplyFits (searchReply s start out b)
-unfolding searchReply searchRefusal searchLines readRefusal startLines startWrong
-reply-fits s start out b = go (searchRefusal s start out b) refl
+unfolding replyTo refusalTo linesTo readRefusal startLines startWrong
+reply-fits s start out b = go (refusalTo (ofBlock s) start out b) refl
   where
-    go : (r : Refused) → searchRefusal s start out b ≡ r → ReplyFits (answeredUnless r (search (decoded s) start b))
+    t : Table
+    t = decoded s
+
+    go : (r : Refused) → refusalTo (ofBlock s) start out b ≡ r → ReplyFits (replyUnless r (searchBy t (clean t) (statedOutcome t) start b))
     go accepted h =
-        let both = passed-both (decoded s .count) (readingLines s) (startLines (decoded s) start out b) h in
+        let both = passed-both (t .count) (readingLines s) (startLines t (clean t) start out b) h in
         let room = whole-off _ _ _ _ (both .1) in
         let rest = whole-off _ _ _ _ (room .1) in
         let few = whole-off _ _ _ _ (rest .1) in
-        search-fits (decoded s) (small-read s (both .0)) start b (not-false _ (room .0)) (ltb-false _ _ (few .0))
+        search-fits t (small-read s (both .0)) start b (not-false _ (room .0)) (ltb-false _ _ (few .0))
     go (byLine n) h = tt
     go (byRecord n k) h = tt
 
@@ -115,7 +121,7 @@ module _ (out : List ℕ) where
 
 -- a call, by what the search entry promises of it
 module _ (s start out : List ℕ) (b : ℕ) (after : List ℕ) (r : code.Reply)
-    (h : Promised s start (record { allowance = b; buffer = out; reply = r; after = after })) where
+    (h : Promised (ofBlock s) start (record { allowance = b; buffer = out; reply = r; after = after })) where
   counts : lengthOf r ≡ prefixLength (replyOf r after)
   counts = h .1 .1 ∙ ap prefixLength (sym (h .0))
 

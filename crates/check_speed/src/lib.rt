@@ -1,11 +1,10 @@
 // The check of a block in two forms, for the benchmark alone: by additions, as crate `checksum` works it out, and by weights,
 // as it did before. Both make the same promise.
+use edition::EditionOne;
 ghost use Prim.Native.Nat.{_+_, _*_, _≤_, _<_};
 ghost use mathlib.Core.Path.{_≡_};
 ghost use lib.ListN.{length};
 ghost use Rattle.checksum.specs.Checksum.{covered, checksum};
-
-const BLOCK: usize = 512;
 
 // How many bytes the check covers.
 const COVERED: usize = 508;
@@ -33,7 +32,7 @@ fn by_weights(s: &[u8]) -> u32
 }
 
 #[no_mangle]
-pub extern "C" fn check_by_weights(block: &[u8; BLOCK]) -> u32
+pub extern "C" fn check_by_weights(block: &[u8; EditionOne::BLOCK]) -> u32
     ensures { λ r. ⌜ r ≡ checksum (now (block .entry)) ⌝ }
 {
     let s: &[u8] = block;
@@ -41,7 +40,7 @@ pub extern "C" fn check_by_weights(block: &[u8; BLOCK]) -> u32
 }
 
 #[no_mangle]
-pub extern "C" fn check_by_additions(block: &[u8; BLOCK]) -> u32
+pub extern "C" fn check_by_additions(block: &[u8; EditionOne::BLOCK]) -> u32
     ensures { λ r. ⌜ r ≡ checksum (now (block .entry)) ⌝ }
 {
     let s: &[u8] = block;

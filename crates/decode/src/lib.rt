@@ -3,6 +3,7 @@ use edition::EditionOne;
 use edition::LocationNo;
 use table::CAPACITY;
 use table::Event;
+use table::LOCATIONS;
 use table::Table;
 ghost use Prim.Native.Nat.{ℕ, _+_, _*_, _≤_, _<_};
 ghost use mathlib.Core.Path.{_≡_};
@@ -144,13 +145,13 @@ fn events(s: &[u8]) -> [Event; CAPACITY]
 }
 
 // One value for each location, from `at` on.
-fn values(s: &[u8], at: usize) -> [u16; EditionOne::LOCATIONS]
+fn values(s: &[u8], at: usize) -> [u16; LOCATIONS]
     requires { ⌜ at + 2 * maxLocations ≤ length (now s) ⌝ }
     ensures { λ r. ⌜ r ≡ upTo maxLocations (λ (x : ℕ). wordAt (now (s .entry)) (at + 2 * x)) ⌝ }
 {
-    let mut list = [0u16; EditionOne::LOCATIONS];
+    let mut list = [0u16; LOCATIONS];
     let mut x: usize = 0;
-    while x < EditionOne::LOCATIONS {
+    while x < LOCATIONS {
         list[x] = word_at(s, at + WORD * x);
         x += 1;
     }

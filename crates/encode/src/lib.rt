@@ -4,6 +4,7 @@ use decode::MARKER;
 use decode::RECORD;
 use decode::WORD;
 use edition::EditionOne;
+use table::LOCATIONS;
 use table::Table;
 ghost use Prim.Native.Nat.{_+_, _*_, _≤_};
 ghost use mathlib.Core.Path.{_≡_};
@@ -49,12 +50,12 @@ fn put_header(block: &mut [u8], t: Table)
 }
 
 // Sets one value for each location, from `at` on.
-fn put_values(block: &mut [u8], at: usize, values: [u16; EditionOne::LOCATIONS])
+fn put_values(block: &mut [u8], at: usize, values: [u16; LOCATIONS])
     requires { ⌜ at + 2 * maxLocations ≤ length (now block) ⌝ }
     ensures { λ r. ⌜ now (block .exit) ≡ sets (now (block .entry)) at (valueBytes values) ⌝ }
 {
     let mut x: usize = 0;
-    while x < EditionOne::LOCATIONS {
+    while x < LOCATIONS {
         record_bytes::put_word(block, at + WORD * x, values[x] as u32);
         x += 1;
     }

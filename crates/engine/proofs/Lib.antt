@@ -2,4 +2,3 @@ pub mod StateLaws
 pub mod LoadLaws
 pub mod EngineLaws
 pub mod StepLaws
-pub mod SearchLaws

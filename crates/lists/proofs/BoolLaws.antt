@@ -1,6 +1,8 @@
 -- Laws of tests.
-use mathlib.Core.Path.{_≡_, refl, sym}
+use Prim.Native.Nat.{ℕ, zero, suc}
+use mathlib.Core.Path.{_≡_, refl, sym, _∙_}
 use mathlib.Core.Bool.{Bool, true, false, _&&_, _||_, not, xor, true≢false, false≢true}
+use lib.Dec.{eqb, eqb·zero-suc, eqb·suc-zero, eqb·suc-suc}
 
 -- a test that passed drops out of a conjunction
 pub and-taken : (a b : Bool) → a ≡ true → b ≡ (a && b)
@@ -100,3 +102,10 @@ or-off false t h = (refl, h)
 pub or-implied : (s t : Bool) → (s ≡ true → t ≡ true) → (not s || t) ≡ true
 or-implied true t f = f refl
 or-implied false t f = refl
+
+-- a test of equality reads the same both ways
+pub eqb-comm : (a b : ℕ) → eqb a b ≡ eqb b a
+eqb-comm zero zero = refl
+eqb-comm zero (suc b) = eqb·zero-suc b ∙ sym (eqb·suc-zero b)
+eqb-comm (suc a) zero = eqb·suc-zero a ∙ sym (eqb·zero-suc a)
+eqb-comm (suc a) (suc b) = eqb·suc-suc a b ∙ eqb-comm a b ∙ sym (eqb·suc-suc b a)

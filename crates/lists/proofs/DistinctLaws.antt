@@ -1,16 +1,17 @@
--- Lists with no entry twice: parts of such a list, counting, and the pigeonhole principle.
-use Prim.Native.Nat.{ℕ, suc, _+_, _≤_, _<_}
+-- Lists with no entry twice: parts of such a list, one more entry, counting, and the pigeonhole principle.
+use Prim.Native.Nat.{ℕ, zero, suc, _+_, _≤_, _<_}
 use native.Mathlib.Omega.{arith}
 use mathlib.Core.Path.{_≡_, refl, sym, ap, _∙_}
-use mathlib.Core.Bool.{Bool, true, false, cond, not, _&&_, _||_, or-false, true≢false, false≢true, and-eq-true-iff}
+use mathlib.Core.Bool.{Bool, true, false, cond, not, _&&_, _||_, and-false, or-false, true≢false, false≢true, and-eq-true-iff}
 use mathlib.Core.List.{List, [], _∷_, _++_}
 use lib.ListN.{length}
 use lib.Dec.{eqb}
-use borrow.Author.Tests.{eqb-true, eq-eqb, not-true}
+use borrow.Author.Tests.{eqb-true, eq-eqb, ne-eqb, not-true}
+use Rattle.lists.specs.Below.{upFrom, below}
 use Rattle.lists.specs.Lists.{all, kept, keep, has, count, distinct, before}
-use Rattle.lists.proofs.BoolLaws.{or-off}
+use Rattle.lists.proofs.BoolLaws.{or-off, eqb-comm}
 use Rattle.lists.proofs.ListLaws.{all-has}
-use Rattle.lists.proofs.MemberLaws.{has-later, has-all, has-append, has-keep}
+use Rattle.lists.proofs.MemberLaws.{has-later, has-all, has-here, has-append, has-kept, has-keep}
 
 -- a list with no entry twice: its first entry is not in the rest, which has none twice
 pub distinct-first : (x : ℕ) (l : List ℕ) → distinct (x ∷ l) ≡ true → (has x l ≡ false) × (distinct l ≡ true)
@@ -48,6 +49,55 @@ pub before-left : (l m : List ℕ) (a b : ℕ) → has b m ≡ false → before 
 before-left [] m a b h = before-none m a b h
 before-left (x ∷ l) m a b h = rw (before-left l m a b h, has-append b l m, h, or-false (has b l))
 
+-- behind an entry of different ones stands what comes after it
+pub before-at : (p s : List ℕ) (e b : ℕ) → distinct (p ++ (e ∷ s)) ≡ true → before (p ++ (e ∷ s)) e b ≡ has b s
+before-at [] s e b h = rw (eq-eqb e e refl)
+before-at (x ∷ p) s e b h = rw (ne-eqb e x other) (before-at p s e b (t .1))
+  where
+    t : (has x (p ++ (e ∷ s)) ≡ false) × (distinct (p ++ (e ∷ s)) ≡ true)
+    t = distinct-first x (p ++ (e ∷ s)) h
+
+    other : e ≡ x → ⊥
+    other q = true≢false (sym (has-here p s e) ∙ ap (λ (y : ℕ). has y (p ++ (e ∷ s))) q ∙ t .0)
+
+-- before the last entry stand all others
+pub before-last : (p : List ℕ) (a x : ℕ) → before (p ++ (x ∷ [])) a x ≡ has a p
+before-last [] a x = elim (eqb a x) as (λ b. cond b false false ≡ false) [ true ↦ refl | false ↦ refl ]
+before-last (y ∷ p) a x =
+    elim (eqb a y) as (λ b. cond b (has x (p ++ (x ∷ []))) (before (p ++ (x ∷ [])) a x) ≡ (b || has a p))
+    [ true ↦ has-here p [] x | false ↦ before-last p a x ]
+
+-- with one entry more none is there twice, if none is in the list and that entry isn't in it
+pub distinct-last : (p : List ℕ) (x : ℕ) → distinct (p ++ (x ∷ [])) ≡ (distinct p && not (has x p))
+distinct-last [] x = refl
+distinct-last (y ∷ p) x =
+    rw (has-append y p (x ∷ []), distinct-last p x, eqb-comm y x) (regroup (has y p) (eqb x y) (distinct p) (has x p))
+  where
+    regroup : (a b c d : Bool) → (not (a || (b || false)) && (c && not d)) ≡ (not a && c && not (b || d))
+    regroup true b c d = refl
+    regroup false true c d = sym (and-false c)
+    regroup false false c d = refl
+
+-- none of the numbers from k on is less than k
+from-none : (j k m : ℕ) → j < k → has j (upFrom k m) ≡ false
+unfolding upFrom
+from-none j k zero h = refl
+from-none j k (suc m) h = rw (ne-eqb j k (λ e. omega arith)) (from-none j (suc k) m (omega arith))
+
+-- of the numbers from k on none is kept twice
+from-distinct : (f : ℕ → Bool) (k m : ℕ) → distinct (keep f (upFrom k m)) ≡ true
+unfolding upFrom
+from-distinct f k zero = refl
+from-distinct f k (suc m) =
+    elim (f k) as (λ b. distinct (kept b k (keep f (upFrom (suc k) m))) ≡ true) [
+      | true ↦ rw (has-kept f (upFrom (suc k) m) k, from-none k (suc k) m (omega arith)) (from-distinct f (suc k) m)
+      | false ↦ from-distinct f (suc k) m
+    ]
+
+-- nor of the numbers below n
+pub kept-distinct : (f : ℕ → Bool) (n : ℕ) → distinct (keep f (below n)) ≡ true
+kept-distinct f n = from-distinct f 0 n
+
 -- a number in the list is counted
 count-has : (x : ℕ) (l : List ℕ) → has x l ≡ true → 1 ≤ count x l
 count-has x [] h = absurd (false≢true h)
@@ -58,7 +108,7 @@ count-has x (y ∷ l) h = go (eqb x y) h (count-has x l)
     go false h later = omega (arith, later h)
 
 -- a number that is not in the list is not counted
-pub count-none : (x : ℕ) (l : List ℕ) → has x l ≡ false → count x l ≡ 0
+count-none : (x : ℕ) (l : List ℕ) → has x l ≡ false → count x l ≡ 0
 count-none x [] h = refl
 count-none x (y ∷ l) h = go (eqb x y) h (count-none x l)
   where
@@ -73,6 +123,18 @@ counted-has x l h = go (has x l) refl
     go : (b : Bool) → has x l ≡ b → b ≡ true
     go true e = refl
     go false e = absurd (omega (arith, count-none x l e))
+
+-- it is counted once, where none is there twice
+pub distinct-once : (x : ℕ) (l : List ℕ) → distinct l ≡ true → has x l ≡ true → count x l ≡ 1
+distinct-once x [] d h = absurd (false≢true h)
+distinct-once x (y ∷ l) d h = go (eqb x y) refl h (distinct-once x l (t .1))
+  where
+    t : (has y l ≡ false) × (distinct l ≡ true)
+    t = distinct-first y l d
+
+    go : (b : Bool) → eqb x y ≡ b → (b || has x l) ≡ true → (has x l ≡ true → count x l ≡ 1) → cond b 1 0 + count x l ≡ 1
+    go true e h later = omega (arith, count-none x l (ap (λ (z : ℕ). has z l) (eqb-true x y e) ∙ t .0))
+    go false e h later = omega (arith, later h)
 
 -- a list has no entry twice, if each is counted once at most
 pub distinct-count : (l : List ℕ) → ((x : ℕ) → has x l ≡ true → count x l ≤ 1) → distinct l ≡ true

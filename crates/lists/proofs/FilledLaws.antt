@@ -7,7 +7,7 @@ use native.Mathlib.Nat.{le-of-suc-le-suc, eq-or-lt-of-le}
 use native.Mathlib.Numerals.{add-one}
 use native.Mathlib.Omega.{arith}
 use lib.ListN.{length, getD, take, drop, set, length-append, length-drop, List·getD-append}
-use lib.Seq.{take-suc-set, take-all, drop-cons, set-at, getD-at, ext-getD}
+use lib.Seq.{take-suc-set, take-all, drop-cons, set-at, getD-at, getD-take, length-take-le, ext-getD}
 use Rattle.lists.specs.Filled.{upTo}
 
 pub length-upTo : {A : Type 0} (n : ℕ) (f : ℕ → A) → length (upTo n f) ≡ n
@@ -28,6 +28,10 @@ getD-upTo (suc n) f k d h =
 pub upTo-same : {A : Type 0} (n : ℕ) (f : ℕ → A) (d : A) (l : List A) → length l ≡ n → ((k : ℕ) → k < n → getD l k d ≡ f k) → l ≡ upTo n f
 upTo-same n f d l e h =
     ext-getD d l (upTo n f) (e ∙ sym (length-upTo n f)) (λ k i. h k (omega arith) ∙ sym (getD-upTo n f k d (omega arith)))
+
+-- the front of a list is made from its entries: copying fills too
+pub take-filled : (n : ℕ) (l : List ℕ) → n ≤ length l → take n l ≡ upTo n (λ k. getD l k 0)
+take-filled n l h = upTo-same n (λ k. getD l k 0) 0 (take n l) (length-take-le n l h) (λ k i. getD-take n l k 0 i)
 
 -- an array: one more entry is filled
 pub upTo-more : {A : Type 0} (f : ℕ → A) (l : List A) (i : ℕ) {v : A} → i < length l → take i l ≡ upTo i f → v ≡ f i

@@ -8,4 +8,6 @@ pub mod BetweenLaws
 pub mod DistinctLaws
 pub mod TakeLaws
 pub mod FilledLaws
+pub mod PaddedLaws
+pub mod LastLaws
 pub mod AscendingLaws

@@ -1,9 +1,11 @@
 -- Laws of the tests and parts of lists, and of membership.
-use Prim.Native.Nat.{ℕ}
+use Prim.Native.Nat.{ℕ, zero, suc, _<_}
 use mathlib.Core.Path.{_≡_, refl, sym, ap, _∙_}
-use mathlib.Core.Bool.{Bool, true, false, _||_, false≢true, and-eq-true-iff}
+use mathlib.Core.Bool.{Bool, true, false, _&&_, _||_, false≢true, and-true, and-assoc, and-eq-true-iff}
 use mathlib.Core.List.{List, [], _∷_, _++_, cons-ne-nil, head-eq-of-cons-eq}
+use native.Mathlib.Omega.{arith}
 use lib.Dec.{eqb}
+use lib.ListN.{length, getD}
 use borrow.Author.Tests.{eqb-true}
 use Rattle.lists.specs.Lists.{all, has, kept, keep}
 
@@ -26,6 +28,17 @@ all-has p (y ∷ l) x h k = go (eqb x y) refl k (all-has p l x (t .1))
     go : (b : Bool) → eqb x y ≡ b → (b || has x l) ≡ true → (has x l ≡ true → p x ≡ true) → p x ≡ true
     go true e k later = ap p (eqb-true x y e) ∙ t .0
     go false e k later = later k
+
+-- a test that every entry passes is passed by the entry at j
+pub all-getD : (p : ℕ → Bool) (l : List ℕ) (j : ℕ) → all p l ≡ true → j < length l → p (getD l j 0) ≡ true
+all-getD p [] j a h = absurd (omega arith)
+all-getD p (x ∷ l) zero a h = and-eq-true-iff (p x) (all p l) .0 a .0
+all-getD p (x ∷ l) (suc j) a h = all-getD p l j (and-eq-true-iff (p x) (all p l) .0 a .1) (omega arith)
+
+-- every one of a list with one entry more passes: those of the list, and the entry
+pub all-last : {A : Type 0} (p : A → Bool) (l : List A) (x : A) → all p (l ++ (x ∷ [])) ≡ (all p l && p x)
+all-last p [] x = and-true (p x)
+all-last p (y ∷ l) x = ap (λ (b : Bool). p y && b) (all-last p l x) ∙ sym (and-assoc (p y) (all p l) (p x))
 
 -- what is kept of two lists joined is what is kept of each, joined
 pub keep-append : {A : Type 0} (f : A → Bool) (l m : List A) → keep f (l ++ m) ≡ keep f l ++ keep f m

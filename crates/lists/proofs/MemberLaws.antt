@@ -2,7 +2,7 @@
 use Prim.Native.Nat.{ℕ, zero, suc, _+_, _≤_, _<_}
 use native.Mathlib.Nat.{eq-or-lt-of-le}
 use native.Mathlib.Omega.{arith}
-use mathlib.Core.Path.{_≡_, refl, sym, ap, _∙_}
+use mathlib.Core.Path.{_≡_, refl, sym, ap, ap₂, _∙_}
 use mathlib.Core.Bool.{Bool, true, false, _&&_, _||_, and-false, or-true, or-assoc, false≢true}
 use mathlib.Core.List.{List, [], _∷_, _++_, List·Memᴰ·head, List·Memᴰ·tail, List·Memᴰ·cases-cons, List·Memᴰ·not-nil}
 use mathlib.Core.Logic.{⊎-elim}
@@ -21,6 +21,17 @@ has-later x y l h = ap (λ (b : Bool). eqb x y || b) h ∙ or-true (eqb x y)
 pub has-all : (p : ℕ → Bool) (l : List ℕ) → ((x : ℕ) → has x l ≡ true → p x ≡ true) → all p l ≡ true
 has-all p [] h = refl
 has-all p (y ∷ l) h = rw (h y (rw (eq-eqb y y refl))) (has-all p l (λ x m. h x (has-later x y l m)))
+
+-- tests that agree on the numbers in the list agree on the list
+pub all-same : (f g : ℕ → Bool) (l : List ℕ) → ((x : ℕ) → has x l ≡ true → f x ≡ g x) → all f l ≡ all g l
+all-same f g [] h = refl
+all-same f g (y ∷ l) h =
+    ap₂ (λ (b c : Bool). b && c) (h y (rw (eq-eqb y y refl))) (all-same f g l (λ x m. h x (has-later x y l m)))
+
+-- an entry is in the list
+pub has-here : (p s : List ℕ) (e : ℕ) → has e (p ++ (e ∷ s)) ≡ true
+has-here [] s e = rw (eq-eqb e e refl)
+has-here (x ∷ p) s e = has-later e x (p ++ (e ∷ s)) (has-here p s e)
 
 -- two lists joined have the numbers of both
 pub has-append : (x : ℕ) (l m : List ℕ) → has x (l ++ m) ≡ (has x l || has x m)
@@ -71,6 +82,10 @@ has-below n k =
     bool-ext (has k (below n)) (ltb k n)
     (all-has (λ e. ltb e n) (below n) k (all-from n 0 n (omega arith)))
     (λ h. below-has n k (ltb-true k n h))
+
+-- the numbers kept of those below n are those less than n that pass
+pub kept-has : (f : ℕ → Bool) (n x : ℕ) → has x (keep f (below n)) ≡ (ltb x n && f x)
+kept-has f n x = has-kept f (below n) x ∙ ap (λ (b : Bool). b && f x) (has-below n x)
 
 module _ {A : Type 0} (f : A → Bool) where
   -- an entry kept is an entry of the list that passes

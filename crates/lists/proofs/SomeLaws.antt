@@ -6,7 +6,7 @@ use mathlib.Core.Logic.{⊎-elim}
 use native.Mathlib.Nat.{eq-or-lt-of-le}
 use native.Mathlib.Omega.{arith}
 use lib.Dec.{ltb}
-use borrow.Author.Tests.{ltb-true, ltb-false, not-true, not-false}
+use borrow.Author.Tests.{ltb-true, ltb-false, lt-ltb, le-ltb, not-true, not-false}
 use Rattle.lists.specs.Below.{firstFrom, lowest, some, every, IsLowest}
 
 -- the search from k stops by k + m
@@ -104,3 +104,11 @@ every-at n f k h l = not-false (f k) (none-at n (λ j. not (f j)) k (not-true (s
 -- where each passes, every one does
 pub at-every : (n : ℕ) (f : ℕ → Bool) → ((k : ℕ) → k < n → f k ≡ true) → every n f ≡ true
 at-every n f h = ap not (some-none n (λ j. not (f j)) (λ k l. ap not (h k l)))
+
+-- the lowest is below the bound: there is some
+pub some-below : (n k : ℕ) (f : ℕ → Bool) → k ≡ lowest n f → k < n → some n f ≡ true
+some-below n k f e h = ap (λ (j : ℕ). ltb j n) (sym e) ∙ lt-ltb k n h
+
+-- it isn't: there is none
+pub none-below : (n k : ℕ) (f : ℕ → Bool) → k ≡ lowest n f → n ≤ k → some n f ≡ false
+none-below n k f e h = ap (λ (j : ℕ). ltb j n) (sym e) ∙ le-ltb k n h

@@ -1,7 +1,7 @@
 -- Laws for a loop that goes through a list: what holds of the entries passed, and of all.
 use Prim.Native.Nat.{ℕ, zero, suc, _+_, _≤_, _<_}
-use mathlib.Core.Path.{_≡_, refl, sym, ap, _∙_}
-use mathlib.Core.Bool.{Bool, true, false, cond, _&&_, not, true≢false}
+use mathlib.Core.Path.{_≡_, refl, ap, _∙_}
+use mathlib.Core.Bool.{Bool, true, false, cond, _&&_, _||_, not, true≢false}
 use mathlib.Core.List.{List, [], _∷_, _++_}
 use native.Mathlib.Omega.{arith}
 use native.Mathlib.Numerals.{add-one}
@@ -9,11 +9,11 @@ use lib.ListN.{length, getD, take}
 use lib.Seq.{take-suc}
 use borrow.Author.Tests.{not-true}
 use lib.Dec.{eqb}
-use Rattle.lists.specs.Below.{some, upFrom, below}
+use Rattle.lists.specs.Below.{some, every, upFrom, below}
 use Rattle.lists.specs.Lists.{all, kept, keep, count}
-use Rattle.lists.proofs.BoolLaws.{bool-ext, and-l, and-r}
-use Rattle.lists.proofs.SomeLaws.{some-none, none-at}
-use Rattle.lists.proofs.ListLaws.{all-has}
+use Rattle.lists.proofs.BoolLaws.{bool-ext}
+use Rattle.lists.proofs.SomeLaws.{some-none, some-same, none-at}
+use Rattle.lists.proofs.ListLaws.{all-has, all-last}
 use Rattle.lists.proofs.MemberLaws.{has-keep, below-has}
 
 -- counting goes on past a list
@@ -25,13 +25,9 @@ count-append e (x ∷ l) m = omega (arith, count-append e l m)
 pub count-more : (e : ℕ) (l : List ℕ) (i : ℕ) → i < length l → count e (take (i + 1) l) ≡ count e (take i l) + cond (eqb e (getD l i 0)) 1 0
 count-more e l i h = rw (add-one i, take-suc l i 0 h) (count-append e (take i l) (getD l i 0 ∷ []) ∙ omega arith)
 
-all-append : {A : Type 0} (p : A → Bool) (l m : List A) → all p l ≡ true → all p m ≡ true → all p (l ++ m) ≡ true
-all-append p [] m h k = k
-all-append p (x ∷ l) m h k = rw (and-l (p x) (all p l) h) (all-append p l m (and-r (p x) (all p l) h) k)
-
 -- one more entry passes
 pub all-more : (p : ℕ → Bool) (l : List ℕ) (i : ℕ) → i < length l → all p (take i l) ≡ true → p (getD l i 0) ≡ true → all p (take (i + 1) l) ≡ true
-all-more p l i h a e = rw (add-one i, take-suc l i 0 h) (all-append p (take i l) (getD l i 0 ∷ []) a (rw e refl))
+all-more p l i h a e = rw (add-one i, take-suc l i 0 h, all-last p (take i l) (getD l i 0), a) e
 
 -- an entry fails
 pub all-fails : (p : ℕ → Bool) (l : List ℕ) (i : ℕ) → i < length l → p (getD l i 0) ≡ false → all p l ≡ false
@@ -64,3 +60,12 @@ all-kept p f n = bool-ext (all p (keep f (below n))) (not (some n (λ k. f k && 
 
     every : not (some n (λ k. f k && not (p k))) ≡ true → all p (keep f (below n)) ≡ true
     every h = from-kept p f 0 n (λ k l b. none-at n (λ j. f j && not (p j)) k (not-true (some n (λ j. f j && not (p j))) h) (omega arith))
+
+-- the same, of a test below the bound
+pub kept-every : (f : ℕ → Bool) (n : ℕ) (p : ℕ → Bool) → all p (keep f (below n)) ≡ every n (λ k. not (f k) || p k)
+kept-every f n p =
+    all-kept p f n ∙ ap not (some-same n (λ k. f k && not (p k)) (λ k. not (not (f k) || p k)) (λ k l. both (f k) (p k)))
+  where
+    both : (a b : Bool) → (a && not b) ≡ not (not a || b)
+    both true b = refl
+    both false b = refl

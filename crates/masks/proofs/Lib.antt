@@ -4,3 +4,5 @@ pub mod SubsetLaws
 pub mod MaskOfLaws
 pub mod UnionLaws
 pub mod WithinLaws
+pub mod GatherLaws
+pub mod SortLaws

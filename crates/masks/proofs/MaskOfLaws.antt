@@ -1,10 +1,10 @@
 -- Laws of the mask of a list.
-use Prim.Native.Nat.{ℕ, zero, suc, _^_, _≤_, _<_}
+use Prim.Native.Nat.{ℕ, suc, _^_, _≤_, _<_}
 use mathlib.Core.Path.{_≡_, refl, sym, ap, ap₂, _∙_}
 use mathlib.Core.Bool.{Bool, true, not, _&&_, _||_, or-comm}
 use mathlib.Core.List.{List, [], _∷_}
 use native.Mathlib.Omega.{arith}
-use lib.Dec.{eqb, ltb, eqb·zero-suc, eqb·suc-zero, eqb·suc-suc}
+use lib.Dec.{eqb, ltb}
 use lib.ListN.{length}
 use lib.Pow.{pow-pos, pow-lt}
 use lib.Bits.{bitAnd, or-lt}
@@ -14,19 +14,12 @@ use Rattle.lists.specs.Below.{below}
 use Rattle.lists.specs.Lists.{all, has, keep, distinct}
 use Rattle.masks.specs.Bit.{bit}
 use Rattle.masks.specs.MaskOf.{maskOf}
-use Rattle.lists.proofs.BoolLaws.{and-l, and-r, bool-ext}
+use Rattle.lists.proofs.BoolLaws.{and-l, and-r, bool-ext, eqb-comm}
 use Rattle.lists.proofs.ListLaws.{all-keep, all-has}
-use Rattle.lists.proofs.MemberLaws.{has-all, has-kept, all-from, has-below}
+use Rattle.lists.proofs.MemberLaws.{has-all, all-from, kept-has}
 use Rattle.masks.proofs.BitLaws.{bit-or, bit-zero, bit-pow}
 use Rattle.masks.proofs.PowerLaws.{lt-pow, ones-or}
 use Rattle.masks.proofs.SubsetLaws.{subset}
-
--- a test of equality reads the same both ways
-eqb-comm : (a b : ℕ) → eqb a b ≡ eqb b a
-eqb-comm zero zero = refl
-eqb-comm zero (suc b) = eqb·zero-suc b ∙ sym (eqb·suc-zero b)
-eqb-comm (suc a) zero = eqb·suc-zero a ∙ sym (eqb·zero-suc a)
-eqb-comm (suc a) (suc b) = eqb·suc-suc a b ∙ eqb-comm a b ∙ sym (eqb·suc-suc b a)
 
 -- the bits of the mask are the entries of the list
 pub mask-has : (p : List ℕ) (k : ℕ) → bit (maskOf p) k ≡ has k p
@@ -46,7 +39,7 @@ mask-lt w (e ∷ p) h =
 
 -- the bits of the mask are the numbers below n that pass
 pub mask-below : (f : ℕ → Bool) (n k : ℕ) → bit (maskOf (keep f (below n))) k ≡ (ltb k n && f k)
-mask-below f n k = mask-has (keep f (below n)) k ∙ has-kept f (below n) k ∙ ap (λ (b : Bool). b && f k) (has-below n k)
+mask-below f n k = mask-has (keep f (below n)) k ∙ kept-has f n k
 
 -- the mask is one of w bits
 pub mask-below-lt : (f : ℕ → Bool) (n w : ℕ) → n ≤ w → maskOf (keep f (below n)) < 2 ^ w

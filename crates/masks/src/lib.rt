@@ -1,6 +1,7 @@
 // Masks of 32 bits: bit 0 is the lowest.
 ghost use Prim.Native.Nat.{_<_, _^_};
 ghost use mathlib.Core.Path.{_≡_};
+ghost use mathlib.Core.Bool.{cond};
 ghost use lib.Dec.{eqb};
 ghost use lib.Bits.{bitAnd};
 ghost use lib.Count.{trailingZeros};
@@ -12,6 +13,14 @@ pub fn one(e: u32) -> u32
     ensures { λ r. ⌜ r ≡ 2 ^ e ⌝ }
 {
     1 << e
+}
+
+// The mask of bit `e` alone if it passes, else the empty mask.
+pub fn one_if(passes: bool, e: u8) -> u32
+    requires { ⌜ e < 32 ⌝ }
+    ensures { λ r. ⌜ r ≡ cond passes (2 ^ e) 0 ⌝ }
+{
+    if passes { one(e as u32) } else { 0 }
 }
 
 // Bit `k` of `m` is set.

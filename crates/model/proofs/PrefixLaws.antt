@@ -8,24 +8,24 @@ use mathlib.Core.Logic.{_↔_, _≢_}
 use lib.ListN.{length}
 use lib.Dec.{eqb, ltb}
 use borrow.Author.Tests.{ltb-true, lt-ltb, eqb-true, eq-eqb, not-true, not-false}
-use Rattle.lists.specs.Below.{some, every, below}
-use Rattle.lists.specs.Lists.{_∈_, all, any, keep, has, count, distinct, before}
+use Rattle.lists.specs.Below.{some, below}
+use Rattle.lists.specs.Lists.{_∈_, all, any, has, count, distinct, before}
 use Rattle.lists.specs.Ascending.{AllAbove, Ascending}
 use Rattle.lists.proofs.BoolLaws.{and-l, and-r, or-implied}
 use Rattle.lists.proofs.ListLaws.{all-has}
 use Rattle.lists.proofs.MemberLaws.{has-all, has-left, has-keep, below-has, keep-only, keep-each}
-use Rattle.lists.proofs.DistinctLaws.{distinct-left, distinct-apart, before-left, counted-has, distinct-count, pigeonhole}
+use Rattle.lists.proofs.DistinctLaws.{distinct-left, distinct-apart, before-left, counted-has, distinct-count, pigeonhole, kept-distinct}
 use Rattle.lists.proofs.SomeLaws.{some-found, none-at, every-at, at-every}
 use Rattle.prefixes.specs.Listed.{listed}
 use Rattle.prefixes.specs.Statements.{PrefixClosed}
-use Rattle.prefixes.proofs.ListedLaws.{rising-keep, kept-distinct, listed-only, listed-each, listed-ascending, listed-nonempty}
+use Rattle.prefixes.proofs.ListedLaws.{rising-keep, listed-only, listed-each, listed-ascending, listed-nonempty}
 use Rattle.table.specs.declared.Table.{Table}
 use Rattle.table.specs.Events.{memory, memoryEvents, memoryCount}
 use Rattle.model.specs.Rules.{rules, staticRules, holds, mayOrder, ppo, staticPpo}
 use Rattle.model.specs.Returns.{returns}
-use Rattle.model.specs.Axioms.{breaksPpo, preservedOrder, loadValue, atomicity, valuesRead, finalValues}
-use Rattle.model.specs.Witness.{isMemoryEvent, isOrder, lawful, witness}
-use Rattle.model.specs.Prefixes.{isPrefix, predecessorsListed, clean, cleanPrefixes, orders, witnesses}
+use Rattle.model.specs.Axioms.{breaksPpo, preservedOrder}
+use Rattle.model.specs.Witness.{isMemoryEvent, isOrder, lawful, witnessFor, statedOutcome, witness}
+use Rattle.model.specs.Prefixes.{isPrefix, predecessorsListed, clean, prefixesBy, cleanPrefixes, orders, witnesses}
 
 -- some test of a list holds, if some test of a sublist does
 any-sublist : {l m : List Bool} → Sublistᴰ l m → any holds l ≡ true → any holds m ≡ true
@@ -107,29 +107,39 @@ module _ (t : Table) where
       c : Clean (p ++ (x ∷ []))
       c = clean-has q h
 
-  -- listed are the nonempty clean prefixes
-  pub clean-listed : (p : List ℕ) → (p ∈ cleanPrefixes t) ↔ ((p ≢ []) × (clean t p ≡ true))
-  unfolding cleanPrefixes memoryCount
-  clean-listed p = (
-    λ m. let r = listed-only (clean t) (memoryEvents t) (memoryCount t) p m in (r .0, r .1),
-    λ h. each (h .0) (h .1) (clean-has p (h .1)),
-  )
-    where
-      each : p ≢ [] → clean t p ≡ true → Clean p → p ∈ cleanPrefixes t
-      each n h c =
-          let m : all (λ e. has e (memoryEvents t)) p ≡ true =
-          has-all (λ e. has e (memoryEvents t)) p (λ e i. event-has e (all-has (isMemoryEvent t) p e (c .events) i)) in
-          listed-each (clean t) (memoryEvents t) (memoryCount t) p clean-closed n h m (pigeonhole p (memoryEvents t) (c .different) m)
+  -- Over any test that is prefix-closed and that only clean prefixes pass.
+  module _ (passes : List ℕ → Bool) (closed : PrefixClosed passes) (cleanly : (p : List ℕ) → passes p ≡ true → clean t p ≡ true) where
+    -- listed are the nonempty prefixes that pass
+    pub passing-listed : (p : List ℕ) → (p ∈ prefixesBy t passes) ↔ ((p ≢ []) × (passes p ≡ true))
+    unfolding memoryCount
+    passing-listed p = (
+      λ m. let r = listed-only passes (memoryEvents t) (memoryCount t) p m in (r .0, r .1),
+      λ h. each (h .0) (h .1) (clean-has p (cleanly p (h .1))),
+    )
+      where
+        each : p ≢ [] → passes p ≡ true → Clean p → p ∈ prefixesBy t passes
+        each n h c =
+            let m : all (λ e. has e (memoryEvents t)) p ≡ true =
+            has-all (λ e. has e (memoryEvents t)) p (λ e i. event-has e (all-has (isMemoryEvent t) p e (c .events) i)) in
+            listed-each passes (memoryEvents t) (memoryCount t) p closed n h m (pigeonhole p (memoryEvents t) (c .different) m)
 
   -- in ascending order, and so each once
-  pub clean-ascending : Ascending (cleanPrefixes t)
-  unfolding cleanPrefixes memoryEvents
-  clean-ascending = listed-ascending (clean t) (memoryEvents t) (memoryCount t) (rising-keep (memory t) (t .count))
+  pub passing-ascending : (passes : List ℕ → Bool) → Ascending (prefixesBy t passes)
+  unfolding memoryEvents
+  passing-ascending passes = listed-ascending passes (memoryEvents t) (memoryCount t) (rising-keep (memory t) (t .count))
 
   -- none is empty
-  pub clean-nonempty : AllAbove [] (cleanPrefixes t)
+  pub passing-nonempty : (passes : List ℕ → Bool) → AllAbove [] (prefixesBy t passes)
+  passing-nonempty passes = listed-nonempty passes (memoryEvents t) (memoryCount t)
+
+  -- of the clean prefixes
+  pub clean-listed : (p : List ℕ) → (p ∈ cleanPrefixes t) ↔ ((p ≢ []) × (clean t p ≡ true))
   unfolding cleanPrefixes
-  clean-nonempty = listed-nonempty (clean t) (memoryEvents t) (memoryCount t)
+  clean-listed = passing-listed (clean t) clean-closed (λ p h. h)
+
+  pub clean-ascending : Ascending (cleanPrefixes t)
+  unfolding cleanPrefixes
+  clean-ascending = passing-ascending (clean t)
 
   -- an order has each memory event once
   order-once : (p : List ℕ) → isOrder t p ≡ true → (e : ℕ) → isMemoryEvent t e ≡ true → count e p ≡ 1
@@ -154,29 +164,24 @@ module _ (t : Table) where
       events : all (isMemoryEvent t) p ≡ true
       events = and-l _ _ h
 
-  -- what a witness is, of which the search uses no more
-  witness-order : (p : List ℕ) → witness t p ≡ true → (isOrder t p ≡ true) × (preservedOrder t (returns t p) p ≡ true)
-  unfolding witness lawful
-  witness-order p h = (search (and-l, and-r), search (and-l, and-r))
+  -- Over any outcome.
+  module _ (outcome : List ℕ → Bool) where
+    -- what a witness is, of which the search uses no more
+    witness-order : (p : List ℕ) → witnessFor t outcome p ≡ true → (isOrder t p ≡ true) × (preservedOrder t (returns t p) p ≡ true)
+    unfolding witnessFor lawful
+    witness-order p h = (search (and-l, and-r), search (and-l, and-r))
 
-  -- every witness is a clean prefix
-  pub witness-clean : (p : List ℕ) → witness t p ≡ true → clean t p ≡ true
-  witness-clean p h = let r = witness-order p h in order-clean p (returns t p) (r .0) (r .1)
+    -- every witness is a clean prefix
+    pub witness-clean : (p : List ℕ) → witnessFor t outcome p ≡ true → clean t p ≡ true
+    witness-clean p h = let r = witness-order p h in order-clean p (returns t p) (r .0) (r .1)
 
-  -- no witness is empty, if there is a memory event
-  pub witness-nonempty : (p : List ℕ) → some (t .count) (memory t) ≡ true → witness t p ≡ true → p ≢ []
-  unfolding isMemoryEvent
-  witness-nonempty p s h e =
-      let r = some-found (t .count) (memory t) s in
-      let c = order-once p (witness-order p h .0) (r .0) (rw (lt-ltb (r .0) (t .count) (r .1)) (r .2)) in
-      let z : _≡_ {A = ℕ} 0 1 = ap (count (r .0)) (sym e) ∙ c in omega arith
-
-  -- the witnesses are those among the clean prefixes listed
-  pub witness-listed : (p : List ℕ) → some (t .count) (memory t) ≡ true → (p ∈ keep (witness t) (cleanPrefixes t)) ↔ (witness t p ≡ true)
-  witness-listed p s = (
-    λ m. keep-only (witness t) (cleanPrefixes t) p m .1,
-    λ h. keep-each (witness t) (cleanPrefixes t) p (clean-listed p .1 (witness-nonempty p s h, witness-clean p h)) h,
-  )
+    -- no witness is empty, if there is a memory event
+    pub witness-nonempty : (p : List ℕ) → some (t .count) (memory t) ≡ true → witnessFor t outcome p ≡ true → p ≢ []
+    unfolding isMemoryEvent
+    witness-nonempty p s h e =
+        let r = some-found (t .count) (memory t) s in
+        let c = order-once p (witness-order p h .0) (r .0) (rw (lt-ltb (r .0) (t .count) (r .1)) (r .2)) in
+        let z : _≡_ {A = ℕ} 0 1 = ap (count (r .0)) (sym e) ∙ c in omega arith
 
   -- what makes a list an order: every event of the test is in it, once
   record Order (p : List ℕ) : Type 0 where
@@ -222,15 +227,16 @@ module _ (t : Table) where
 
   -- The list of witnesses, by which the worked cases speak, has the witnesses and no other list.
   pub witnesses-each : (gmo : List ℕ) → (gmo ∈ witnesses t) ↔ ((gmo ≢ []) × (witness t gmo ≡ true))
-  unfolding witnesses
+  unfolding witnesses witness
   witnesses-each gmo = (
     λ m. let r = keep-only (witness t) (orders t) gmo m in (orders-nonempty gmo (r .0), r .1),
-    λ h. keep-each (witness t) (orders t) gmo (order-listed gmo (h .0) (order-has gmo (witness-order gmo (h .1) .0))) (h .1),
+    λ h. keep-each (witness t) (orders t) gmo (order-listed gmo (h .0) (order-has gmo (witness-order (statedOutcome t) gmo (h .1) .0))) (h .1),
   )
 
   -- The empty order is none, where there is a memory event (line 11).
   pub witnesses-exactly : (gmo : List ℕ) → some (t .count) (memory t) ≡ true → (gmo ∈ witnesses t) ↔ (witness t gmo ≡ true)
+  unfolding witness
   witnesses-exactly gmo s = (
     λ m. witnesses-each gmo .0 m .1,
-    λ h. witnesses-each gmo .1 (witness-nonempty gmo s h, h),
+    λ h. witnesses-each gmo .1 (witness-nonempty (statedOutcome t) gmo s h, h),
   )

@@ -13,8 +13,8 @@ use Rattle.table.specs.declared.Table.{Table}
 use Rattle.table.specs.Events.{reads}
 use Rattle.model.specs.Rules.{nothing, from}
 use Rattle.model.specs.Returns.{returnOf, returnEntry, returns}
-use Rattle.model.specs.Axioms.{breaksLoadValue, loadValue}
-use Rattle.model.specs.Witness.{isOrder, lawful, witness}
+use Rattle.model.specs.Axioms.{breaksLoadValue, loadValue, valuesRead, finalValues}
+use Rattle.model.specs.Witness.{isOrder, lawful, witnessFor, statedOutcome, witness}
 use Rattle.model.specs.Verdict.{allowed, verdict}
 use Rattle.model.proofs.SaysLaws.{allowed-exactly}
 
@@ -54,14 +54,14 @@ returns-only t rf gmo long n = (
 
 -- An order with the returns that it determines is allowed exactly when it is a witness.
 pub witness-allowed : (t : Table) (gmo : List ℕ) → isOrder t gmo ≡ true → (verdict t (returns t gmo) gmo ≡ allowed) ↔ (witness t gmo ≡ true)
-unfolding witness lawful
+unfolding witness witnessFor statedOutcome lawful
 witness-allowed t gmo h =
     let exactly = allowed-exactly t (returns t gmo) gmo in (
       λ e. let a = exactly .0 e in rw (h, a .0 .0 .0 .0, a .0 .0 .0 .1, a .0 .0 .1, a .0 .1, a .1),
       λ w.
-          let f = and-eq-true-iff _ _ .0 w in
-          let v = and-eq-true-iff _ _ .0 (f .0) in
-          let a = and-eq-true-iff _ _ .0 (v .0) in
+          let o = and-eq-true-iff (lawful t gmo) (statedOutcome t gmo) .0 w in
+          let v = and-eq-true-iff (valuesRead t (returns t gmo)) (finalValues t gmo) .0 (o .1) in
+          let a = and-eq-true-iff _ _ .0 (o .0) in
           let l = and-eq-true-iff _ _ .0 (a .0) in
-          exactly .1 ((((and-eq-true-iff (isOrder t gmo) _ .0 (l .0) .1, l .1), a .1), v .1), f .1),
+          exactly .1 ((((and-eq-true-iff (isOrder t gmo) _ .0 (l .0) .1, l .1), a .1), v .0), v .1),
     )

@@ -8,9 +8,9 @@ use Rattle.lists.specs.Below.{lowest, some}
 use Rattle.lists.specs.Lists.{before}
 use Rattle.masks.specs.Bit.{bit}
 use Rattle.table.specs.declared.Table.{Table}
-use Rattle.table.specs.Events.{event, hart, location, reads, writes, sameLocation, paired}
+use Rattle.table.specs.Events.{event, hart, reads, writes, sameLocation, paired}
 use Rattle.model.specs.Rules.{initially, from, ppo}
-use Rattle.model.specs.Returns.{returnOf, writtenValue, finalValue}
+use Rattle.model.specs.Returns.{returnOf, writtenValue, valueRead, finalValue}
 
 -- preserved order puts a before b, and the order doesn't
 unfoldable pub breaksPpo : Table → List ℕ → List ℕ → ℕ → ℕ → Bool
@@ -47,7 +47,7 @@ atomicityWriter t rf gmo l =
 
 -- "each reader returns its stated value": reader r doesn't
 unfoldable pub breaksValueRead : Table → List ℕ → ℕ → Bool
-breaksValueRead t rf r = reads t r && not (eqb (writtenValue t (location t r) (from rf r)) (event t r .read))
+breaksValueRead t rf r = reads t r && not (eqb (valueRead t (writtenValue t) rf r) (event t r .read))
 
 -- "each stated final value is that of the location's last write": that of x isn't
 unfoldable pub breaksFinalValue : Table → List ℕ → ℕ → Bool

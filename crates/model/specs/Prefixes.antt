@@ -11,7 +11,7 @@ use Rattle.table.specs.Events.{memoryEvents, memoryCount}
 use Rattle.prefixes.specs.Listed.{listed, after}
 use Rattle.prefixes.specs.Answer.{Answer, answer}
 use Rattle.model.specs.Rules.{staticPpo}
-use Rattle.model.specs.Witness.{isMemoryEvent, witness}
+use Rattle.model.specs.Witness.{isMemoryEvent, witnessFor, statedOutcome, witness}
 
 -- "A prefix is a list of different memory events."
 unfoldable pub isPrefix : Table → List ℕ → Bool
@@ -26,13 +26,21 @@ predecessorsListed t p e = every (t .count) (λ a. not (staticPpo t a e) || befo
 unfoldable pub clean : Table → List ℕ → Bool
 clean t p = isPrefix t p && all (predecessorsListed t p) p
 
+-- all nonempty prefixes that pass a test, ascending
+abbrev pub prefixesBy : Table → (List ℕ → Bool) → List (List ℕ)
+prefixesBy t passes = listed passes (memoryEvents t) (memoryCount t)
+
 -- all nonempty clean prefixes, ascending
 unfoldable pub cleanPrefixes : Table → List (List ℕ)
-cleanPrefixes t = listed (clean t) (memoryEvents t) (memoryCount t)
+cleanPrefixes t = prefixesBy t (clean t)
 
--- one search, of a table, from a start with an allowance
+-- one search for an outcome along the prefixes that pass a test, from a start with an allowance
+unfoldable pub searchBy : Table → (passes outcome : List ℕ → Bool) → List ℕ → ℕ → Answer
+searchBy t passes outcome s b = answer (witnessFor t outcome) (after s (prefixesBy t passes)) s b
+
+-- one search along the clean prefixes, for the outcome that the table states
 unfoldable pub search : Table → List ℕ → ℕ → Answer
-search t s b = answer (witness t) (after s (cleanPrefixes t)) s b
+search t s b = searchBy t (clean t) (statedOutcome t) s b
 
 -- all orders of the memory events, ascending
 unfoldable pub orders : Table → List (List ℕ)

@@ -23,7 +23,15 @@ lawful t gmo =
     isOrder t gmo
     && preservedOrder t (returns t gmo) gmo && loadValue t (returns t gmo) gmo && atomicity t (returns t gmo) gmo
 
--- a witness: "if besides that each reader returns its stated value and each stated final value is that of the location's
+-- a witness of an outcome, which is a test of orders: a lawful order that gives it
+unfoldable pub witnessFor : Table → (List ℕ → Bool) → List ℕ → Bool
+witnessFor t outcome gmo = lawful t gmo && outcome gmo
+
+-- the outcome that a table states: "each reader returns its stated value and each stated final value is that of the location's
 -- last write"
+unfoldable pub statedOutcome : Table → List ℕ → Bool
+statedOutcome t gmo = valuesRead t (returns t gmo) && finalValues t gmo
+
+-- a witness: "if besides that" it gives the stated outcome
 unfoldable pub witness : Table → List ℕ → Bool
-witness t gmo = lawful t gmo && valuesRead t (returns t gmo) && finalValues t gmo
+witness t gmo = witnessFor t (statedOutcome t) gmo

@@ -5,15 +5,16 @@ use mathlib.Core.Bool.{Bool, true, false, _&&_}
 use mathlib.Core.List.{List, []}
 use lib.Dec.{eqb, ltb}
 use borrow.Author.Tests.{lt-ltb, le-ltb}
+use Rattle.lists.specs.Reply.{Reply, refused, answered}
 use Rattle.lists.proofs.BoolLaws.{and-left, and-right}
 use Rattle.table.specs.declared.Table.{Table}
 use Rattle.table.specs.Events.{memory, po, hart}
-use Rattle.refusals.specs.Lines.{Refused, byLine, firstLine}
+use Rattle.refusals.specs.Lines.{Refused, byLine, firstLine, replyUnless}
 use Rattle.refusals.proofs.LineLaws.{none-here, whole-here, whole-next}
 use Rattle.model.specs.Rules.{ruleSet}
 use Rattle.model.specs.Witness.{isMemoryEvent}
 use Rattle.candidate.specs.CandidateLines.{returnedLengthWrong, returnedWrong}
-use Rattle.pair_rules.specs.PairRules.{Ruled, declined, ruled, returnedLines, onlyIf, rulesBetween, ruledUnless}
+use Rattle.pair_rules.specs.PairRules.{returnedLines, onlyIf, rulesBetween}
 
 module _ (t : Table) (rf : List ℕ) (a b : ℕ) where
   -- the test that the definition makes of the pair, and the code's
@@ -62,19 +63,19 @@ module _ (t : Table) (rf : List ℕ) (a b : ℕ) where
   pair-ruled h k e = sym (ap (λ (c : Bool). onlyIf c (ruleSet t rf a b)) (asked-told h k ∙ e))
 
   -- The lines of a returned list, told one by one.
-  abbrev pub RuledAs : Ruled → Type 0
-  RuledAs r = r ≡ ruledUnless (firstLine (t .count) (returnedLines t rf)) (rulesBetween t rf a b)
+  abbrev pub RuledAs : Reply Refused (List ℕ) → Type 0
+  RuledAs r = r ≡ replyUnless (firstLine (t .count) (returnedLines t rf)) (rulesBetween t rf a b)
 
-  pub pair-12 : returnedLengthWrong t rf ≡ true → RuledAs (declined (byLine 12))
+  pub pair-12 : returnedLengthWrong t rf ≡ true → RuledAs (refused (byLine 12))
   unfolding returnedLines
-  pair-12 d = ap (λ (r : Refused). ruledUnless r (rulesBetween t rf a b)) (whole-here _ _ _ _ d)
+  pair-12 d = ap (λ (r : Refused). replyUnless r (rulesBetween t rf a b)) (whole-here _ _ _ _ d)
 
-  pub pair-14 : returnedLengthWrong t rf ≡ false → returnedWrong t rf ≡ true → RuledAs (declined (byLine 14))
+  pub pair-14 : returnedLengthWrong t rf ≡ false → returnedWrong t rf ≡ true → RuledAs (refused (byLine 14))
   unfolding returnedLines
-  pair-14 d e = ap (λ (r : Refused). ruledUnless r (rulesBetween t rf a b)) (whole-next _ _ _ _ _ d (whole-here _ _ _ _ e))
+  pair-14 d e = ap (λ (r : Refused). replyUnless r (rulesBetween t rf a b)) (whole-next _ _ _ _ _ d (whole-here _ _ _ _ e))
 
   pub pair-none : returnedLengthWrong t rf ≡ false → returnedWrong t rf ≡ false → (rs : List ℕ) → rs ≡ rulesBetween t rf a b →
-      RuledAs (ruled rs)
+      RuledAs (answered rs)
   unfolding returnedLines
   pair-none d e rs h =
-      ap ruled h ∙ ap (λ (r : Refused). ruledUnless r (rulesBetween t rf a b)) (whole-next _ _ _ _ _ d (whole-next _ _ _ _ _ e (none-here _)))
+      ap answered h ∙ ap (λ (r : Refused). replyUnless r (rulesBetween t rf a b)) (whole-next _ _ _ _ _ d (whole-next _ _ _ _ _ e (none-here _)))

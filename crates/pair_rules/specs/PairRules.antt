@@ -2,9 +2,10 @@
 use Prim.Native.Nat.{ℕ}
 use mathlib.Core.Bool.{Bool, true, false, _&&_}
 use mathlib.Core.List.{List, [], _∷_}
+use Rattle.lists.specs.Reply.{Reply, refused, answered}
 use Rattle.table.specs.declared.Table.{Table}
 use Rattle.table.specs.Events.{po}
-use Rattle.refusals.specs.Lines.{Refused, accepted, byLine, byRecord, Line, whole}
+use Rattle.refusals.specs.Lines.{Refused, Line, whole}
 use Rattle.refusals.specs.Refusals.{refusalOf}
 use Rattle.model.specs.Rules.{ruleSet}
 use Rattle.model.specs.Witness.{isMemoryEvent}
@@ -12,11 +13,6 @@ use Rattle.rule_sets.specs.RuleMask.{rulesIn}
 use Rattle.candidate.specs.CandidateLines.{returnedLengthWrong, returnedWrong}
 use Rattle.pair_rules.specs.declared.PairRules.{PairRules}
 use Rattle.pair_rules.specs.declared.PairRules.the-variants.{Refused as RefusedCase, Held}
-
--- a pair is declined, or ordered by some rules
-pub data Ruled : Type 0 where
-  declined : Refused → Ruled
-  ruled : List ℕ → Ruled
 
 -- "(refused as for a candidate)": 12 of the list, 14
 unfoldable pub returnedLines : Table → List ℕ → List Line
@@ -30,12 +26,7 @@ onlyIf false rs = []
 unfoldable pub rulesBetween : Table → List ℕ → ℕ → ℕ → List ℕ
 rulesBetween t rf a b = onlyIf (isMemoryEvent t a && isMemoryEvent t b && po t a b) (ruleSet t rf a b)
 
-abbrev pub ruledUnless : Refused → List ℕ → Ruled
-ruledUnless accepted rs = ruled rs
-ruledUnless (byLine n) rs = declined (byLine n)
-ruledUnless (byRecord n k) rs = declined (byRecord n k)
-
 -- the code's answer in these words
-abbrev pub ruledOf : PairRules → Ruled
-ruledOf (RefusedCase r) = declined (refusalOf r)
-ruledOf (Held set) = ruled (rulesIn set)
+abbrev pub ruledOf : PairRules → Reply Refused (List ℕ)
+ruledOf (RefusedCase r) = refused (refusalOf r)
+ruledOf (Held set) = answered (rulesIn set)

@@ -4,10 +4,10 @@ use refusals::Refusal;
 use table::Table;
 ghost use mathlib.Core.Path.{_≡_};
 ghost use lib.ListN.{length};
-ghost use Rattle.refusals.specs.Lines.{firstLine};
+ghost use Rattle.refusals.specs.Lines.{firstLine, replyUnless};
 ghost use Rattle.rule_sets.specs.RuleMask.{rulesIn};
-ghost use Rattle.precedence.specs.Counts.{Small};
-ghost use Rattle.pair_rules.specs.PairRules.{returnedLines, rulesBetween, ruledUnless, ruledOf};
+ghost use Rattle.table.specs.Counts.{Small};
+ghost use Rattle.pair_rules.specs.PairRules.{returnedLines, rulesBetween, ruledOf};
 
 // The rules of a pair: a set, bit r - 1 for rule r.
 pub enum PairRules {
@@ -37,7 +37,7 @@ fn held(t: Table, returned: &[u8], a: u64, b: u64) -> u16
 // The rules of a pair of a table: 12, 14, then the set.
 pub fn pair(t: Table, returned: &[u8], a: u64, b: u64) -> PairRules
     requires { ⌜ Small t ⌝ }
-    ensures { λ r. ⌜ ruledOf r ≡ ruledUnless (firstLine (t .count) (returnedLines t (now (returned .entry)))) (rulesBetween t (now (returned .entry)) a b) ⌝ }
+    ensures { λ r. ⌜ ruledOf r ≡ replyUnless (firstLine (t .count) (returnedLines t (now (returned .entry)))) (rulesBetween t (now (returned .entry)) a b) ⌝ }
 {
     if returned.len() != t.count as usize {
         return PairRules::Refused(Refusal::Line(12));

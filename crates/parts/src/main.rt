@@ -1,9 +1,14 @@
-// Reads a suite of up to 4,096 bytes and prints what part is handed back as each block, and as some that it lacks.
+// Reads a suite of up to eight blocks and prints what part is handed back as each block, and as some that it lacks.
 use console::Filled;
 use console::Line;
+use edition::EditionOne;
 
-// No suite of the test is longer.
-const LONGEST: usize = 4096;
+const MOST_BLOCKS: usize = 8;
+
+const MOST_BYTES: usize = MOST_BLOCKS * EditionOne::BLOCK;
+
+// The last block whose first byte has a number that a usize holds.
+const LAST: usize = usize::MAX / EditionOne::BLOCK;
 
 fn part(suite: &[u8], k: usize) {
     let bytes = suite_part::block(suite, k);
@@ -26,17 +31,17 @@ fn parts(suite: &[u8]) {
     let n = suite_part::blocks(suite);
     Line::output().number(n as u64).text(b" blocks").end();
     let mut k: usize = 0;
-    while k < 8 {
+    while k < MOST_BLOCKS {
         part(suite, k);
         k += 1;
     }
-    part(suite, usize::MAX / 512);
-    part(suite, usize::MAX / 512 + 1);
+    part(suite, LAST);
+    part(suite, LAST + 1);
     part(suite, usize::MAX);
 }
 
 fn main() {
-    let mut buffer = [0u8; LONGEST];
+    let mut buffer = [0u8; MOST_BYTES];
     match console::fill(&mut buffer) {
         Filled::Failed => console::input_failed(b"parts"),
         Filled::Bytes(n) => parts(console::front(&buffer, n)),

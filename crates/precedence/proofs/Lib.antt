@@ -1,3 +1,1 @@
-pub mod EntryLaws
 pub mod PrecedenceLaws
-pub mod LoopLaws

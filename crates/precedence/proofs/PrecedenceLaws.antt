@@ -1,40 +1,38 @@
 -- The engine's clean prefixes over the masks of a table are the model's; and a witness is a whole order.
-use Prim.Native.Nat.{ℕ, _^_, _<_}
+use Prim.Native.Nat.{ℕ, _<_}
 use native.Mathlib.Omega.{arith}
 use mathlib.Core.Path.{_≡_, refl, sym, ap, ap₂, _∙_, subst}
-use mathlib.Core.Bool.{Bool, true, false, cond, not, _&&_, _||_, and-false, true≢false}
+use mathlib.Core.Bool.{Bool, true, false, not, _&&_, _||_, and-false, true≢false}
 use mathlib.Core.List.{List, [], _∷_, _++_, append-nil, append-assoc}
 use mathlib.Core.Logic.{_↔_}
 use lib.ListN.{length, getD}
 use lib.Dec.{eqb, ltb}
 use lib.Bits.{bitAnd}
-use lib.Count.{ones}
-use borrow.Author.Tests.{ltb-true, lt-ltb, eqb-true, eq-eqb, ne-eqb, not-true}
+use borrow.Author.Tests.{ltb-true, eqb-true, eq-eqb, ne-eqb, not-true}
 use Rattle.lists.specs.Below.{below, every}
 use Rattle.lists.specs.Lists.{all, has, keep, count, distinct, before}
 use Rattle.lists.proofs.BoolLaws.{and-l, and-r}
-use Rattle.lists.proofs.ListLaws.{all-has}
-use Rattle.lists.proofs.MemberLaws.{has-all}
-use Rattle.lists.proofs.DistinctLaws.{before-left, counted-has, distinct-count, pigeonhole}
+use Rattle.lists.proofs.ListLaws.{all-has, all-last}
+use Rattle.lists.proofs.MemberLaws.{has-all, all-same}
+use Rattle.lists.proofs.DistinctLaws.{before-left, before-last, distinct-last, distinct-count, counted-has, distinct-once, pigeonhole}
 use Rattle.lists.proofs.SomeLaws.{some-same}
-use Rattle.lists.proofs.FilledLaws.{getD-upTo}
+use Rattle.lists.proofs.TakeLaws.{kept-every}
+use Rattle.lists.proofs.PaddedLaws.{padded-at}
 use Rattle.lists.proofs.AscendingLaws.{ascending-same}
 use Rattle.masks.specs.Bit.{bit}
 use Rattle.masks.specs.MaskOf.{maskOf}
-use Rattle.masks.proofs.MaskOfLaws.{mask-has, mask-lt, mask-ones, mask-subset}
+use Rattle.masks.proofs.MaskOfLaws.{mask-has, mask-subset}
 use Rattle.table.specs.declared.Table.{Table}
-use Rattle.table.specs.Events.{memory, memoryEvents, memoryCount}
-use Rattle.prefixes.proofs.ListedLaws.{kept-distinct}
+use Rattle.table.specs.Events.{memory, memoryEvents, memoryCount, memoryMask}
+use Rattle.table.proofs.MemoryLaws.{memory-has, memory-distinct, memory-mask-small, memory-mask-ones}
 use Rattle.model.specs.Rules.{staticPpo}
-use Rattle.model.specs.Witness.{isMemoryEvent, isOrder, lawful, witness}
+use Rattle.model.specs.Witness.{isMemoryEvent, isOrder, lawful, witnessFor}
 use Rattle.model.specs.Prefixes.{isPrefix, predecessorsListed, clean, cleanPrefixes}
 use Rattle.model.proofs.PrefixLaws.{clean-listed, clean-ascending}
-use Rattle.successors.specs.CleanMasks.{slots, limit, ready, mayFollow, cleanFrom, cleanBy, masked}
+use Rattle.successors.specs.CleanMasks.{slots, ready, mayFollow, cleanFrom, cleanBy, masked}
 use Rattle.ready_events.proofs.CleanLaws.{clean-snoc}
 use Rattle.engine.proofs.EngineLaws.{whole, masked-only, masked-each, masked-ascending}
-use Rattle.precedence.specs.Precedence.{predecessorMask, predecessorMasks, memoryMask}
-use Rattle.precedence.proofs.EntryLaws.{kept-has, kept-every, all-same, all-last, before-last, distinct-last}
-use Rattle.precedence.proofs.EntryLaws.{distinct-once}
+use Rattle.precedence.specs.Precedence.{predecessorMask, predecessorMasks}
 
 -- the tests of a list with one more entry are those of the list and those of the entry; where n holds, l is k, which does not see the entry
 regroup : (e x d n l k m : Bool) → (n ≡ true → l ≡ k) → ((e && x) && (d && n) && (l && m)) ≡ ((e && d && k) && (x && n && m))
@@ -46,27 +44,18 @@ regroup true true true true l k m h = ap (λ (b : Bool). b && m) (h refl)
 
 module _ (t : Table) where
   -- the list of memory events has each
-  memory-has : (e : ℕ) → has e (memoryEvents t) ≡ isMemoryEvent t e
-  unfolding memoryEvents isMemoryEvent
-  memory-has e = kept-has (memory t) (t .count) e
+  listed-memory : (e : ℕ) → has e (memoryEvents t) ≡ isMemoryEvent t e
+  unfolding isMemoryEvent
+  listed-memory e = memory-has t e
 
   -- and so has their mask
   memory-bit : (e : ℕ) → bit (memoryMask t) e ≡ isMemoryEvent t e
   unfolding memoryMask
-  memory-bit e = mask-has (memoryEvents t) e ∙ memory-has e
+  memory-bit e = mask-has (memoryEvents t) e ∙ listed-memory e
 
   event-below : (e : ℕ) → isMemoryEvent t e ≡ true → e < t .count
   unfolding isMemoryEvent
   event-below e h = ltb-true e (t .count) (and-l (ltb e (t .count)) (memory t e) h)
-
-  memory-distinct : distinct (memoryEvents t) ≡ true
-  unfolding memoryEvents
-  memory-distinct = kept-distinct (memory t) (t .count)
-
-  -- there are as many bits as memory events
-  pub memory-mask-ones : ones (memoryMask t) ≡ memoryCount t
-  unfolding memoryMask memoryCount
-  memory-mask-ones = mask-ones (memoryEvents t) memory-distinct
 
   -- every steady predecessor of e passes f
   abbrev each : (ℕ → Bool) → ℕ → Bool
@@ -84,7 +73,7 @@ module _ (t : Table) where
   -- before the last entry stand those that are listed before
   last-listed : (p : List ℕ) (x : ℕ) → predecessorsListed t (p ++ (x ∷ [])) x ≡ each (λ a. has a p) x
   unfolding predecessorsListed
-  last-listed p x = each-same (λ a. before (p ++ (x ∷ [])) a x) (λ a. has a p) x (before-last x p)
+  last-listed p x = each-same (λ a. before (p ++ (x ∷ [])) a x) (λ a. has a p) x (λ a. before-last p a x)
 
   -- for the other entries one more behind them, which is none of them, changes nothing
   first-listed : (p : List ℕ) (x : ℕ) → has x p ≡ false → all (predecessorsListed t (p ++ (x ∷ []))) p ≡ all (predecessorsListed t p) p
@@ -100,7 +89,7 @@ module _ (t : Table) where
   clean-last : (p : List ℕ) (x : ℕ) → clean t (p ++ (x ∷ [])) ≡ (clean t p && follows p x)
   unfolding clean isPrefix
   clean-last p x =
-      rw (all-last x (isMemoryEvent t) p, distinct-last x p, all-last x (predecessorsListed t (p ++ (x ∷ []))) p, last-listed p x)
+      rw (all-last (isMemoryEvent t) p x, distinct-last p x, all-last (predecessorsListed t (p ++ (x ∷ []))) p x, last-listed p x)
       (regroup (all (isMemoryEvent t) p) (isMemoryEvent t x) (distinct p) (not (has x p))
       (all (predecessorsListed t (p ++ (x ∷ []))) p) (all (predecessorsListed t p) p) (each (λ a. has a p) x)
       (λ n. first-listed p x (not-true (has x p) n)))
@@ -127,24 +116,24 @@ module _ (t : Table) where
       omega (
         arith,
         pigeonhole p (memoryEvents t) different (has-all (λ e. has e (memoryEvents t)) p listed),
-        pigeonhole (memoryEvents t) p memory-distinct (has-all (λ e. has e p) (memoryEvents t) (λ e m. counted-has e p (once e m))),
+        pigeonhole (memoryEvents t) p (memory-distinct t) (has-all (λ e. has e p) (memoryEvents t) (λ e m. counted-has e p (once e m))),
       )
     where
       once : (e : ℕ) → has e (memoryEvents t) ≡ true → count e p ≡ 1
       once e m = eqb-true (count e p) 1 (all-has (λ e. eqb (count e p) 1) (memoryEvents t) e (order-parts p h .1) m)
 
       listed : (e : ℕ) → has e p ≡ true → has e (memoryEvents t) ≡ true
-      listed e m = memory-has e ∙ all-has (isMemoryEvent t) p e (order-parts p h .0) m
+      listed e m = listed-memory e ∙ all-has (isMemoryEvent t) p e (order-parts p h .0) m
 
       different : distinct p ≡ true
       different = distinct-count p (λ e m. omega (arith, once e (listed e m)))
 
-  -- what is not as long is no witness
-  pub not-whole : (p : List ℕ) → (length p ≡ memoryCount t → ⊥) → witness t p ≡ false
-  unfolding witness lawful
-  not-whole p n = go (witness t p) refl
+  -- what is not as long is no witness, of any outcome
+  pub not-whole : (outcome : List ℕ → Bool) (p : List ℕ) → (length p ≡ memoryCount t → ⊥) → witnessFor t outcome p ≡ false
+  unfolding witnessFor lawful
+  not-whole outcome p n = go (witnessFor t outcome p) refl
     where
-      go : (b : Bool) → witness t p ≡ b → b ≡ false
+      go : (b : Bool) → witnessFor t outcome p ≡ b → b ≡ false
       go true h = absurd (n (order-length p (search (and-l, and-r))))
       go false h = refl
 
@@ -153,9 +142,7 @@ module _ (t : Table) (small : t .count < slots) where
   -- the row of an event
   row-at : (e : ℕ) → e < t .count → getD (predecessorMasks t) e 0 ≡ predecessorMask t e
   unfolding predecessorMasks
-  row-at e h =
-      getD-upTo slots (λ b. cond (ltb b (t .count)) (predecessorMask t b) 0) e 0 (omega arith)
-      ∙ ap (λ (b : Bool). cond b (predecessorMask t e) 0) (lt-ltb e (t .count) h)
+  row-at e h = padded-at (predecessorMask t) slots (t .count) e (omega arith) h
 
   -- an event is ready where every steady predecessor is listed
   ready-same : (p : List ℕ) (e : ℕ) → e < t .count → ready (predecessorMasks t) (maskOf p) e ≡ each t (λ a. has a p) e
@@ -190,20 +177,12 @@ module _ (t : Table) (small : t .count < slots) where
   unfolding cleanBy cleanFrom clean isPrefix
   clean-same p = clean-on [] p refl
 
-  -- no memory event has the last bit
-  pub memory-mask-small : memoryMask t < 2 ^ limit
-  unfolding memoryMask
-  memory-mask-small =
-      mask-lt limit (memoryEvents t)
-      (has-all (λ e. ltb e limit) (memoryEvents t)
-      (λ e m. lt-ltb e limit (omega (arith, event-below t e (sym (memory-has t e) ∙ m)))))
-
   -- the engine's list is the list of clean prefixes
   pub masked-same : masked (predecessorMasks t) (memoryMask t) ≡ cleanPrefixes t
   masked-same =
       ascending-same (masked preds mem) (cleanPrefixes t) (masked-ascending preds mem) (clean-ascending t)
       (λ p m. let r = masked-only preds mem p m in clean-listed t p .1 (r .0, sym (clean-same p) ∙ r .1))
-      (λ p m. let r = clean-listed t p .0 m in masked-each preds mem (omega (arith, memory-mask-small)) p (r .0) (clean-same p ∙ r .1))
+      (λ p m. let r = clean-listed t p .0 m in masked-each preds mem (memory-mask-small t slots (omega arith)) p (r .0) (clean-same p ∙ r .1))
     where
       preds : List ℕ
       preds = predecessorMasks t
@@ -213,7 +192,7 @@ module _ (t : Table) (small : t .count < slots) where
 
   -- a clean prefix has all memory events exactly where its mask is theirs
   pub whole-mask : (p : List ℕ) → clean t p ≡ true → (maskOf p ≡ memoryMask t) ↔ (length p ≡ memoryCount t)
-  whole-mask p h = rw memory-mask-ones at (whole (predecessorMasks t) (memoryMask t) p (clean-same p ∙ h))
+  whole-mask p h = rw (memory-mask-ones t) at (whole (predecessorMasks t) (memoryMask t) p (clean-same p ∙ h))
 
   -- it then is an order
   pub whole-order : (p : List ℕ) → clean t p ≡ true → length p ≡ memoryCount t → isOrder t p ≡ true

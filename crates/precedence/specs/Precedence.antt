@@ -1,14 +1,11 @@
 -- The static part of preserved program order (static ppo) as masks: what the engine is handed of a table.
 use Prim.Native.Nat.{ℕ}
-use mathlib.Core.Bool.{cond}
 use mathlib.Core.List.{List}
-use lib.Dec.{ltb}
 use Rattle.lists.specs.Below.{below}
 use Rattle.lists.specs.Lists.{keep}
-use Rattle.lists.specs.Filled.{upTo}
+use Rattle.lists.specs.Filled.{padded}
 use Rattle.masks.specs.MaskOf.{maskOf}
 use Rattle.table.specs.declared.Table.{Table}
-use Rattle.table.specs.Events.{memoryEvents}
 use Rattle.model.specs.Rules.{staticPpo}
 use Rattle.successors.specs.CleanMasks.{slots}
 
@@ -18,8 +15,4 @@ predecessorMask t b = maskOf (keep (λ a. staticPpo t a b) (below (t .count)))
 
 -- that of each event; a slot past the events has none
 unfoldable pub predecessorMasks : Table → List ℕ
-predecessorMasks t = upTo slots (λ b. cond (ltb b (t .count)) (predecessorMask t b) 0)
-
--- the mask of the memory events
-unfoldable pub memoryMask : Table → ℕ
-memoryMask t = maskOf (memoryEvents t)
+predecessorMasks t = padded slots (t .count) (predecessorMask t)

@@ -11,7 +11,7 @@ use lib.ListN.{length}
 use lib.Dec.{eqb, ltb}
 use borrow.Author.Tests.{ltb-true, lt-ltb, eqb-true, eq-eqb}
 use Rattle.lists.specs.Below.{upFrom, below}
-use Rattle.lists.specs.Lists.{_∈_, all, has, kept, keep, distinct}
+use Rattle.lists.specs.Lists.{_∈_, all, has, kept, keep}
 use Rattle.lists.specs.Ascending.{less, AllAbove, Ascending}
 use Rattle.lists.proofs.ListLaws.{all-keep, all-has}
 use Rattle.lists.proofs.AscendingLaws.{less-head, less-append, less-extended, at-above, ascending-append}
@@ -37,23 +37,6 @@ rising-from f k (suc m) =
 -- what is kept of the numbers below n rises
 pub rising-keep : (f : ℕ → Bool) (n : ℕ) → Rising (keep f (below n))
 rising-keep f n = rising-from f 0 n
-
--- a number that is less than every entry is none of them
-above-none : (x : ℕ) (l : List ℕ) → all (ltb x) l ≡ true → has x l ≡ false
-above-none x l h = go (has x l) refl
-  where
-    go : (b : Bool) → has x l ≡ b → b ≡ false
-    go true m = absurd (omega (arith, ltb-true x x (all-has (ltb x) l x h m)))
-    go false m = refl
-
--- a list that rises has no entry twice
-rising-distinct : (l : List ℕ) → Rising l → distinct l ≡ true
-rising-distinct [] r = refl
-rising-distinct (x ∷ l) r = rw (above-none x l (r .0)) (rising-distinct l (r .1))
-
--- nor has what is kept of the numbers below n
-pub kept-distinct : (f : ℕ → Bool) (n : ℕ) → distinct (keep f (below n)) ≡ true
-kept-distinct f n = rising-distinct (keep f (below n)) (rising-keep f n)
 
 module _ (f : ℕ → List (List ℕ)) where
   -- an entry of the joined lists is an entry of one of them

@@ -6,13 +6,14 @@ use mathlib.Core.Bool.{Bool, true, false, not, _||_, false≢true}
 use mathlib.Core.List.{List, [], _∷_, _++_, append-assoc, append-eq-nil-iff, append-cancel-right}
 use mathlib.Core.Logic.{⊎-elim}
 use lib.ListN.{length, length-append}
+use Rattle.lists.specs.Reply.{Reply, refused, answered}
 use Rattle.lists.specs.Lists.{keep}
 use Rattle.lists.specs.Ascending.{less, AllAbove, Ascending}
 use Rattle.lists.proofs.ListLaws.{keep-append}
 use Rattle.lists.proofs.AscendingLaws.{ascending-keep, ascending-split, after-above, after-next}
 use Rattle.prefixes.specs.Listed.{after}
 use Rattle.prefixes.specs.Answer.{Answer, found, noneLeft, spent, pick, answer}
-use Rattle.prefixes.specs.Walk.{Reply, refused, answered, startAfter, handedBy, visitedBy, saidNoneLeft}
+use Rattle.prefixes.specs.Walk.{startAfter, handedBy, visitedBy, saidNoneLeft}
 use Rattle.prefixes.specs.Walk.{reached, handed, visited, finished}
 use Rattle.prefixes.specs.Statements.{seek, Honest, Walked}
 use Rattle.prefixes.proofs.AnswerLaws.{seek-answer}
@@ -49,7 +50,7 @@ module _ (goal : List ℕ → Bool) (l : List (List ℕ)) where
   says-further s p n m (spent q v) h = move-on m h v (omega arith)
 
   -- what a reply does: a move, and none left only where no witness is greater than the start
-  record Called {R : Type 0} (s : List ℕ) (r : Reply R) : Type 0 where
+  record Called {R : Type 0} (s : List ℕ) (r : Reply R Answer) : Type 0 where
     moved : Moved s 0 (handedBy r) (startAfter s r) (visitedBy r)
     ended : saidNoneLeft r ≡ true → keep goal (after s l) ≡ []
 
@@ -77,7 +78,7 @@ module _ (goal : List ℕ → Bool) (l : List (List ℕ)) where
       go true d h = record { witnesses = rw (e, next, d); count = further }
       go false d h = says-further s p n (record { witnesses = rw (e, next, d); count = further }) (seek goal m p b (suc n)) h
 
-  module _ {R C : Type 0} (reply : List ℕ → C → Reply R) (asc : Ascending l) (honest : Honest goal l reply) where
+  module _ {R C : Type 0} (reply : List ℕ → C → Reply R Answer) (asc : Ascending l) (honest : Honest goal l reply) where
     -- what each call does
     call : (s : List ℕ) (c : C) → Called s (reply s c)
     call s c = ⊎-elim declined said (honest s c)
@@ -118,7 +119,7 @@ module _ (goal : List ℕ → Bool) (l : List (List ℕ)) where
         go false e h t = t h
 
 -- every walk from the empty start, over an ascending list of nonempty prefixes and honest replies
-pub walked : {R C : Type 0} (goal : List ℕ → Bool) (l : List (List ℕ)) (reply : List ℕ → C → Reply R) →
+pub walked : {R C : Type 0} (goal : List ℕ → Bool) (l : List (List ℕ)) (reply : List ℕ → C → Reply R Answer) →
     AllAbove [] l → Ascending l → Honest goal l reply → (cs : List C) → Walked goal l reply cs
 walked goal l reply nonempty asc honest cs = record {
   exact = exact;

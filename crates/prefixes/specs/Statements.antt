@@ -6,11 +6,12 @@ use mathlib.Core.List.{List, [], _∷_, _++_}
 use mathlib.Core.Logic.{_⊎_}
 use lib.ListN.{length}
 use lib.Dec.{ltb}
+use Rattle.lists.specs.Reply.{Reply, refused, answered}
 use Rattle.lists.specs.Lists.{all, keep}
 use Rattle.lists.specs.Ascending.{less, Ascending}
 use Rattle.prefixes.specs.Listed.{after}
 use Rattle.prefixes.specs.Answer.{Answer, found, noneLeft, spent, pick, answer}
-use Rattle.prefixes.specs.Walk.{Reply, refused, answered, reached, handed, visited, finished}
+use Rattle.prefixes.specs.Walk.{reached, handed, visited, finished}
 
 -- a list that passes passes without its last entry too
 abbrev pub PrefixClosed : (List ℕ → Bool) → Type 0
@@ -33,7 +34,7 @@ Final (found p v) = Unit {0}
 Final (noneLeft v) = Unit {0}
 Final (spent p v) = ⊥
 
-module _ {R C : Type 0} (goal : List ℕ → Bool) (l : List (List ℕ)) (reply : List ℕ → C → Reply R) where
+module _ {R C : Type 0} (goal : List ℕ → Bool) (l : List (List ℕ)) (reply : List ℕ → C → Reply R Answer) where
   -- every reply is a refusal, or the answer from its start for some allowance
   abbrev pub Honest : Type 0
   Honest = (s : List ℕ) (c : C) →

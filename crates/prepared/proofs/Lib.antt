@@ -1,4 +1,1 @@
-pub mod GatherLaws
-pub mod FillLaws
-pub mod SortLaws
 pub mod PreparedLaws

@@ -1,12 +1,12 @@
 -- Who reads and who writes where, as masks: what the quick test of an order's values reads in place of the table, prepared
 -- once for each test.
 use Prim.Native.Nat.{ℕ}
-use mathlib.Core.Bool.{Bool, cond, not, _&&_}
+use mathlib.Core.Bool.{Bool, not, _&&_}
 use mathlib.Core.List.{List}
-use lib.Dec.{eqb, ltb}
+use lib.Dec.{eqb}
 use Rattle.lists.specs.Below.{below}
 use Rattle.lists.specs.Lists.{keep}
-use Rattle.lists.specs.Filled.{upTo}
+use Rattle.lists.specs.Filled.{upTo, padded}
 use Rattle.masks.specs.MaskOf.{maskOf}
 use Rattle.edition.specs.Limits.{maxLocations}
 use Rattle.table.specs.declared.Table.{Table}
@@ -39,10 +39,6 @@ writersOf t x = maskOf (keep (writesTo t x) (below (t .count)))
 -- the mask of the readers
 unfoldable pub readersOf : Table → ℕ
 readersOf t = maskOf (keep (reads t) (below (t .count)))
-
--- an array of m entries: f's for the first n, then 0
-unfoldable pub padded : ℕ → ℕ → (ℕ → ℕ) → List ℕ
-padded m n f = upTo m (λ k. cond (ltb k n) (f k) 0)
 
 -- The arrays have an entry for each slot of the table, or for each location; past the events, or the locations, it is 0.
 abbrev pub rivalMasks : Table → List ℕ

@@ -1,26 +1,19 @@
 // Who reads and who writes where, as masks: with those of crate `value_masks`, what the quick test of an order's values reads
 // in place of the table, prepared once for each test. A table by value is copied at each call, so each function goes over the
 // events itself.
-use edition::EditionOne;
 use edition::EventNo;
 use masks::one;
+use masks::one_if;
 use table::CAPACITY;
 use table::Event;
+use table::LOCATIONS;
 use table::Table;
-ghost use Prim.Native.Nat.{_^_, _≤_, _<_};
+ghost use Prim.Native.Nat.{_≤_};
 ghost use mathlib.Core.Path.{_≡_};
-ghost use mathlib.Core.Bool.{cond, not, _&&_};
+ghost use mathlib.Core.Bool.{not, _&&_};
 ghost use lib.Dec.{eqb};
 ghost use Rattle.table.specs.Events.{capacity, readingKind, writingKind};
 ghost use Rattle.prepared.specs.Prepared.{readersOf, rivalMasks, ownMasks, writerMasks};
-
-// The mask of event `e` if it passes, else of none.
-pub fn one_if(passes: bool, e: u8) -> u32
-    requires { ⌜ e < capacity ⌝ }
-    ensures { λ m. ⌜ m ≡ cond passes (2 ^ e) 0 ⌝ }
-{
-    if passes { one(e as u32) } else { 0 }
-}
 
 // The mask of the readers.
 pub fn readers(t: Table) -> u32
@@ -95,16 +88,16 @@ pub fn own_masks(t: Table) -> [u32; CAPACITY]
 
 // For each location the mask of its writers, the last of which leaves its final value. A table that reading refuses may name a
 // location that there is no room for.
-pub fn writer_masks(t: Table) -> [u32; EditionOne::LOCATIONS]
+pub fn writer_masks(t: Table) -> [u32; LOCATIONS]
     requires { ⌜ t .count ≤ capacity ⌝ }
     ensures { λ list. ⌜ list ≡ writerMasks t ⌝ }
 {
-    let mut list = [0u32; EditionOne::LOCATIONS];
+    let mut list = [0u32; LOCATIONS];
     let mut w: u8 = 0;
     while w < t.count {
         let y = t.events[w as usize];
         let x = y.location.0 as usize;
-        if table::writes(y) & (x < EditionOne::LOCATIONS) {
+        if table::writes(y) & (x < LOCATIONS) {
             list[x] = list[x] | one(w as u32);
         }
         w += 1;

@@ -3,15 +3,14 @@ use console::Input;
 use console::Line;
 use refusals::Refusal;
 use table::Event;
+use table::LOCATIONS;
 use table::Table;
-
-const LOCATIONS: usize = 8;
 
 fn value(line: Line, v: u16) -> Line {
     line.value(b" ", v)
 }
 
-fn values(line: Line, list: [u16; 8]) -> Line {
+fn values(line: Line, list: [u16; LOCATIONS]) -> Line {
     let mut filled = line.text(b" /");
     let mut x: usize = 0;
     while x < LOCATIONS {

@@ -1,4 +1,5 @@
 pub mod LineLaws
 pub mod PassedLaws
 pub mod InRange
+pub mod TablePassed
 pub mod ExactlyLaws

@@ -5,9 +5,8 @@ use mathlib.Core.Bool.{Bool, true, false}
 use mathlib.Core.List.{List, [], _∷_}
 use mathlib.Core.Logic.{_≢_}
 use native.Mathlib.Omega.{arith}
-use borrow.Author.Tests.{lt-ltb, le-ltb}
-use lib.Dec.{ltb}
 use Rattle.lists.specs.Below.{lowest, some}
+use Rattle.lists.proofs.SomeLaws.{some-below, none-below}
 use Rattle.refusals.specs.Lines.{Refused, accepted, byLine, byRecord, Line, whole, record-of, refusedIf, firstLine}
 
 -- a refusal is not "accepted"
@@ -36,19 +35,26 @@ whole-next n k b ls r h e = e ∙ sym (ap (λ (x : Bool). refusedIf x (byLine k)
 pub record-here : (n k : ℕ) (f : ℕ → Bool) (ls : List Line) (i : ℕ) → i ≡ lowest n f → i < n → byRecord k i ≡ firstLine n (record-of k f ∷ ls)
 unfolding firstLine
 record-here n k f ls i e l =
-    let h : some n f ≡ true = ap (λ (j : ℕ). ltb j n) (sym e) ∙ lt-ltb i n l in
-    ap (byRecord k) e ∙ sym (ap (λ (x : Bool). refusedIf x (byRecord k (lowest n f)) (firstLine n ls)) h)
+    ap (byRecord k) e ∙ sym (ap (λ (x : Bool). refusedIf x (byRecord k (lowest n f)) (firstLine n ls)) (some-below n i f e l))
 
 -- it doesn't: the next line decides
 pub record-next : (n k : ℕ) (f : ℕ → Bool) (ls : List Line) (i : ℕ) (r : Refused) → i ≡ lowest n f → n ≤ i → r ≡ firstLine n ls
     → r ≡ firstLine n (record-of k f ∷ ls)
 unfolding firstLine
 record-next n k f ls i r e l h =
-    let q : some n f ≡ false = ap (λ (j : ℕ). ltb j n) (sym e) ∙ le-ltb i n l in
-    h ∙ sym (ap (λ (x : Bool). refusedIf x (byRecord k (lowest n f)) (firstLine n ls)) q)
+    h ∙ sym (ap (λ (x : Bool). refusedIf x (byRecord k (lowest n f)) (firstLine n ls)) (none-below n i f e l))
 
 -- no line refuses: the first doesn't hold, and no later one refuses
 pub whole-off : (n k : ℕ) (b : Bool) (ls : List Line) → firstLine n (whole k b ∷ ls) ≡ accepted → (b ≡ false) × (firstLine n ls ≡ accepted)
 unfolding firstLine
 whole-off n k true ls h = absurd (line-refuses k h)
 whole-off n k false ls h = (refl, h)
+
+-- a line of the records holds of none, and no later one refuses
+pub record-off : (n k : ℕ) (f : ℕ → Bool) (ls : List Line) → firstLine n (record-of k f ∷ ls) ≡ accepted → (some n f ≡ false) × (firstLine n ls ≡ accepted)
+unfolding firstLine
+record-off n k f ls h = go (some n f) h
+  where
+    go : (b : Bool) → refusedIf b (byRecord k (lowest n f)) (firstLine n ls) ≡ accepted → (b ≡ false) × (firstLine n ls ≡ accepted)
+    go true e = absurd (record-refuses k (lowest n f) e)
+    go false e = (refl, e)

@@ -5,7 +5,8 @@ use mathlib.Core.Bool.{true, false}
 use mathlib.Core.List.{List, [], _∷_, _++_}
 use mathlib.Core.Logic.{_≢_}
 use Rattle.lists.specs.Below.{lowest, some}
-use Rattle.refusals.specs.Lines.{Refused, accepted, byLine, byRecord, Line, whole, record-of, refusedIf, firstLine}
+use Rattle.lists.specs.Reply.{refused}
+use Rattle.refusals.specs.Lines.{Refused, accepted, byLine, byRecord, Line, whole, record-of, refusedIf, firstLine, unless, replyUnless}
 use Rattle.refusals.proofs.LineLaws.{line-refuses, record-refuses}
 
 -- a refusal, or else the next
@@ -48,3 +49,25 @@ refused-first n ls ms h = first-of-both n ls ms ∙ go (firstLine n ls) h
 -- where the first list refuses nothing, the second decides
 pub passed-first : (n : ℕ) (ls ms : List Line) → firstLine n ls ≡ accepted → firstLine n (ls ++ ms) ≡ firstLine n ms
 passed-first n ls ms h = first-of-both n ls ms ∙ ap (λ (r : Refused). orNext r (firstLine n ms)) h
+
+-- An entry: its reply is refused by the first of its lines, those of reading and its own.
+module _ {A : Type 0} (n : ℕ) (ls ms : List Line) (a : A) where
+  -- reading refuses
+  pub entry-declined : (q : Refused) → q ≡ firstLine n ls → q ≢ accepted → refused q ≡ replyUnless (firstLine n (ls ++ ms)) a
+  entry-declined q e k =
+      same q k ∙ ap (λ (r : Refused). replyUnless r a) (e ∙ sym (refused-first n ls ms (λ h. k (e ∙ h))))
+    where
+      same : (r : Refused) → r ≢ accepted → refused r ≡ replyUnless r a
+      same accepted k = absurd (k refl)
+      same (byLine i) k = refl
+      same (byRecord i j) k = refl
+
+  -- it doesn't: the entry's own lines decide
+  pub entry-own : firstLine n ls ≡ accepted → replyUnless (firstLine n ms) a ≡ replyUnless (firstLine n (ls ++ ms)) a
+  entry-own ok = ap (λ (r : Refused). replyUnless r a) (sym (passed-first n ls ms ok))
+
+-- what a refusal leaves
+pub unless-refused : {A : Type 0} (r : Refused) (a b : A) → r ≢ accepted → unless r a b ≡ b
+unless-refused accepted a b k = absurd (k refl)
+unless-refused (byLine i) a b k = refl
+unless-refused (byRecord i j) a b k = refl

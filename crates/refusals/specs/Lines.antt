@@ -3,6 +3,7 @@ use Prim.Native.Nat.{ℕ}
 use mathlib.Core.Bool.{Bool, true, false}
 use mathlib.Core.List.{List, [], _∷_}
 use Rattle.lists.specs.Below.{lowest, some}
+use Rattle.lists.specs.Reply.{Reply, refused, answered}
 
 -- no refusal; by the number of a line; by a line that names a record
 pub data Refused : Type 0 where
@@ -14,6 +15,16 @@ pub data Refused : Type 0 where
 pub data Line : Type 0 where
   whole : ℕ → Bool → Line
   record-of : ℕ → (ℕ → Bool) → Line
+
+-- the first where nothing refuses, else the second
+abbrev pub unless : {A : Type 0} → Refused → A → A → A
+unless accepted a b = a
+unless (byLine n) a b = b
+unless (byRecord n k) a b = b
+
+-- the answer where nothing refuses
+abbrev pub replyUnless : {A : Type 0} → Refused → A → Reply Refused A
+replyUnless r a = unless r (answered a) (refused r)
 
 abbrev pub refusedIf : Bool → Refused → Refused → Refused
 refusedIf true r rest = r

@@ -1,5 +1,5 @@
--- "When the bench declines a table": lines 5 to 11, each a test of the table. `extra` is what line 6 says of bytes that are
--- no field of the table.
+-- "When the bench declines a table": lines 5 to 11, each a test of the table. `most` is the number of events that the edition
+-- allows, `extra` what line 6 says of bytes that are no field of the table.
 use Prim.Native.Nat.{ℕ, _^_}
 use mathlib.Core.Bool.{Bool, _&&_, _||_, not}
 use mathlib.Core.List.{List, [], _∷_}
@@ -7,11 +7,11 @@ use lib.ListN.{getD}
 use lib.Dec.{eqb, ltb, leb}
 use Rattle.lists.specs.Below.{some}
 use Rattle.masks.specs.Bit.{bit}
-use Rattle.edition.specs.Limits.{maxHarts, maxLocations, maxEvents}
+use Rattle.edition.specs.Limits.{maxHarts, maxLocations}
 use Rattle.operation.specs.Operation.{noOperation, amominu, applied}
 use Rattle.table.specs.declared.Event.{Event}
 use Rattle.table.specs.declared.Table.{Table}
-use Rattle.table.specs.Events.{capacity, event, kind, reads, writes, memory, sameLocation, po, paired, readingKind, writingKind, memoryKind, fencingKind, load, store, amo, lr, sc, fencetso}
+use Rattle.table.specs.Events.{capacity, event, kind, writes, memory, sameLocation, po, paired, readingKind, writingKind, memoryKind, fencingKind, load, store, amo, lr, sc, fencetso}
 use Rattle.table.specs.Annotations.{acquirePc, acquireSc, releasePc, releaseSc, acquiring, releasing}
 use Rattle.refusals.specs.Lines.{Line, whole, record-of}
 
@@ -28,8 +28,8 @@ unfoldable pub statesMissing : Table → Bool
 statesMissing t = some maxLocations (missing t)
 
 -- 5: "harts, locations or events out of range, or the final mask names a location not in the test"
-unfoldable pub line5 : Table → Bool
-line5 t = outside (t .harts) maxHarts || outside (t .locations) maxLocations || outside (t .count) maxEvents || statesMissing t
+unfoldable pub line5 : (most : ℕ) → Table → Bool
+line5 most t = outside (t .harts) maxHarts || outside (t .locations) maxLocations || outside (t .count) most || statesMissing t
 
 -- "initial values of locations not in the test"
 unfoldable pub initialNotZero : Table → ℕ → Bool
@@ -145,5 +145,5 @@ recordLines t =
     record-of 7 (line7 t) ∷ record-of 8 (line8 t) ∷ record-of 9 (line9 t) ∷ record-of 10 (line10 t) ∷ whole 11 (line11 t) ∷ []
 
 -- lines 5 to 11, in their order
-unfoldable pub tableLines : Bool → Table → List Line
-tableLines extra t = whole 5 (line5 t) ∷ whole 6 (extra || line6 t) ∷ recordLines t
+unfoldable pub tableLines : (most : ℕ) (extra : Bool) → Table → List Line
+tableLines most extra t = whole 5 (line5 most t) ∷ whole 6 (extra || line6 t) ∷ recordLines t

@@ -1,2 +1,1 @@
-pub mod LastLaws
 pub mod ReturnLaws

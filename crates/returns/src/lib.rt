@@ -1,5 +1,4 @@
 // What an order makes each reader return, and the values that writes leave.
-use edition::EditionOne;
 use edition::EventNo;
 use edition::LocationNo;
 use global_order::before;
@@ -93,7 +92,7 @@ pub fn determine(t: Table, gmo: &[u8], out: &mut [u8])
 fn initial_value(t: Table, x: LocationNo) -> u16
     ensures { λ r. ⌜ r ≡ initialValue t (x .0) ⌝ }
 {
-    if (x.0 as usize) < EditionOne::LOCATIONS {
+    if (x.0 as usize) < table::LOCATIONS {
         t.initial[x.0 as usize]
     } else {
         0

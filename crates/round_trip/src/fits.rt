@@ -44,21 +44,21 @@ fn event(e: Event)
     byte(e.operand);
 }
 
-fn values(v: [u16; 8])
+fn values(v: [u16; table::LOCATIONS])
     ensures { λ _. ⌜ ValuesFit v ⌝ }
 {
     let mut i: usize = 0;
-    while i < 8 {
+    while i < table::LOCATIONS {
         value(v[i]);
         i += 1;
     }
 }
 
-fn events(v: [Event; 32])
+fn events(v: [Event; table::CAPACITY])
     ensures { λ _. ⌜ EventsFit v ⌝ }
 {
     let mut i: usize = 0;
-    while i < 32 {
+    while i < table::CAPACITY {
         event(v[i]);
         i += 1;
     }

@@ -5,15 +5,16 @@ use block::Reading;
 use refusals::Refusal;
 use table::Table;
 ghost use mathlib.Core.Path.{_≡_};
+ghost use Rattle.refusals.specs.Lines.{unless};
 ghost use Rattle.refusals.specs.Refusals.{refusalOf};
-ghost use Rattle.block.specs.Reading.{tableIf};
-ghost use Rattle.writer.specs.Writing.{writeRefusal, writtenBlock, blockUnless};
+ghost use Rattle.block.specs.Reading.{noTable};
+ghost use Rattle.writer.specs.Writing.{writeRefusal, writtenBlock};
 ghost use Rattle.round_trip.specs.Trips.{rewriteRefusal};
 
 // Writes a table's block and reads it: what isn't refused as a table isn't refused as a block, and is that table.
 pub fn write_then_read(t: Table, out: &mut [u8]) -> Reading
     ensures { λ r. ⌜ refusalOf (r .refusal) ≡ writeRefusal t (now (out .entry)) ⌝ }
-    ensures { λ r. ⌜ r .table ≡ tableIf (writeRefusal t (now (out .entry))) t ⌝ }
+    ensures { λ r. ⌜ r .table ≡ unless (writeRefusal t (now (out .entry))) t noTable ⌝ }
     ensures { λ r. ⌜ now (out .exit) ≡ writtenBlock t (now (out .entry)) ⌝ }
 {
     fits::table(t);
@@ -28,7 +29,7 @@ pub fn write_then_read(t: Table, out: &mut [u8]) -> Reading
 // Reads a block and writes what was read: the same bytes.
 pub fn read_then_write(bytes: &[u8], out: &mut [u8]) -> Refusal
     ensures { λ r. ⌜ refusalOf r ≡ rewriteRefusal (now (bytes .entry)) (now (out .entry)) ⌝ }
-    ensures { λ r. ⌜ now (out .exit) ≡ blockUnless (rewriteRefusal (now (bytes .entry)) (now (out .entry))) (now (bytes .entry)) (now (out .entry)) ⌝ }
+    ensures { λ r. ⌜ now (out .exit) ≡ unless (rewriteRefusal (now (bytes .entry)) (now (out .entry))) (now (bytes .entry)) (now (out .entry)) ⌝ }
 {
     fits::bytes(bytes);
     let reading = block::read(bytes);

@@ -9,45 +9,53 @@ use lib.Seq.{take-at, length-take-le}
 use lib.Count.{ones, ones-le}
 use lib.Dec.{ltb}
 use borrow.Author.Tests.{lt-ltb, le-ltb}
+use Rattle.lists.specs.Reply.{Reply, refused, answered}
 use Rattle.table.specs.declared.Table.{Table}
-use Rattle.table.specs.Events.{memoryCount}
-use Rattle.refusals.specs.Lines.{Refused, accepted, byLine, whole, firstLine}
+use Rattle.table.specs.Events.{memoryCount, memoryMask}
+use Rattle.table.proofs.MemoryLaws.{memory-mask-small, memory-mask-ones}
+use Rattle.refusals.specs.Lines.{Refused, accepted, byLine, Line, firstLine, replyUnless}
 use Rattle.refusals.proofs.LineLaws.{none-here, whole-here, whole-next}
-use Rattle.prefixes.specs.Answer.{Answer, found, noneLeft, spent}
-use Rattle.prefixes.specs.Walk.{Reply, refused, answered}
+use Rattle.prefixes.specs.Answer.{Answer, noneLeft}
+use Rattle.prefixes.specs.Listed.{after}
+use Rattle.prefixes.specs.Statements.{seek}
 use Rattle.prefixes.proofs.AnswerLaws.{seek-answer}
-use Rattle.model.specs.Witness.{witness}
-use Rattle.model.specs.Prefixes.{clean, cleanPrefixes, search}
+use Rattle.model.specs.Witness.{witnessFor, statedOutcome, witness}
+use Rattle.model.specs.Prefixes.{clean, prefixesBy, cleanPrefixes, searchBy}
 use Rattle.successors.specs.CleanMasks.{slots, limit, cleanBy}
 use Rattle.successors.specs.Waiting.{Prepared}
-use Rattle.engine.specs.State.{Began, Holds}
-use Rattle.precedence.specs.Precedence.{predecessorMasks, memoryMask}
-use Rattle.precedence.proofs.PrecedenceLaws.{clean-same, memory-mask-small, memory-mask-ones}
+use Rattle.engine.specs.State.{Began}
+use Rattle.precedence.specs.Precedence.{predecessorMasks}
+use Rattle.precedence.proofs.PrecedenceLaws.{clean-same}
 use Rattle.candidate.specs.CandidateLines.{startWrong, orderTooShort}
 use Rattle.candidate.specs.Buffers.{written}
-use Rattle.witness_walk.specs.declared.Outcome.{Outcome}
-use Rattle.witness_walk.specs.declared.Outcome.the-variants.{Found, NoneLeft, Spent}
-use Rattle.witness_walk.specs.Outcome.{outcomeOf}
-use Rattle.precedence.specs.Counts.{Small}
-use Rattle.witness_walk.specs.Running.{Masked, AtMost, searchFrom, Ran}
-use Rattle.search.specs.Replies.{maxAllowance, startLines, answeredUnless, tableReply, bufferAfter, prefixLength}
+use Rattle.witness_walk.specs.declared.Ending.{Ending}
+use Rattle.witness_walk.specs.declared.Ending.the-variants.{Found, NoneLeft, Spent}
+use Rattle.witness_walk.specs.Ending.{answerOf}
+use Rattle.table.specs.Counts.{Small}
+use Rattle.witness_walk.specs.Running.{Masked, AtMost, Ran}
+use Rattle.search.specs.declared.Reply as code
+use Rattle.search.specs.declared.Reply.the-variants.{Refused as Declined, Answered}
+use Rattle.search.specs.Replies.{replyOf, lengthOf, maxAllowance, startLines, tableReply, bufferAfter, prefixLength}
 
 -- a bound on a prefix's entries may be raised
-pub at-most : (o : Outcome) (m n : ℕ) → m ≤ n → AtMost m o → AtMost n o
+pub at-most : (o : Ending) (m n : ℕ) → m ≤ n → AtMost m o → AtMost n o
 at-most (Found len v) m n h a = omega arith
 at-most (NoneLeft v) m n h a = tt
 at-most (Spent len v) m n h a = omega arith
 
 -- a search from a prefix and from another that is the same
-pub ran-from : {t : Table} {p q : List ℕ} {b : ℕ} {o : Outcome} {order : List ℕ} → p ≡ q → Ran t p b o order → Ran t q b o order
-ran-from {t} {b = b} {o = o} {order = order} e r = subst (λ (l : List ℕ). Ran t l b o order) e r
+pub ran-from : (t : Table) {p q : List ℕ} {b : ℕ} {o : Ending} {order : List ℕ} → p ≡ q → Ran t (witness t) p b o order →
+    answerOf o order ≡ seek (witnessFor t (statedOutcome t)) (after q (prefixesBy t (clean t))) q b 0
+unfolding witness cleanPrefixes
+ran-from t {b = b} {o = o} {order = order} e r =
+    subst (λ (l : List ℕ). answerOf o order ≡ seek (witness t) (after l (cleanPrefixes t)) l b 0) e (r .answer)
 
 -- a prefix copied to the buffer's front: it stands there, the bytes past it stay, and its length is the one said
 pub copied : (say : List ℕ → Answer) (len : ℕ) (order out after : List ℕ) → len ≤ length order → after ≡ take len order ++ drop len out →
-    (_≡_ {A = Reply Refused} (answered (say (take len after))) (answered (say (take len order))))
+    (_≡_ {A = Reply Refused Answer} (answered (say (take len after))) (answered (say (take len order))))
     × ((after ≡ written (take len order) out) × (len ≡ length (take len order)))
 copied say len order out after h w = (
-  ap {B = Reply Refused} (λ (p : List ℕ). answered (say p)) (ap (take len) w ∙ take-at (take len order) (drop len out) len e),
+  ap {B = Reply Refused Answer} (λ (p : List ℕ). answered (say p)) (ap (take len) w ∙ take-at (take len order) (drop len out) len e),
   (w ∙ ap (λ (n : ℕ). take len order ++ drop n out) (sym e), sym e),
 )
   where
@@ -55,56 +63,67 @@ copied say len order out after h w = (
     e = length-take-le len order h
 
 -- none left hands out nothing
-module _ {o : Outcome} {v : ℕ} (e : o ≡ NoneLeft v) (order out : List ℕ) where
-  pub none-said : _≡_ {A = Reply Refused} (answered (noneLeft v)) (answered (outcomeOf o order))
+module _ {o : Ending} {v : ℕ} (e : o ≡ NoneLeft v) (order out : List ℕ) where
+  pub none-said : _≡_ {A = Reply Refused Answer} (answered (noneLeft v)) (answered (answerOf o order))
   none-said = rw e
 
-  pub none-written : out ≡ bufferAfter (answered (outcomeOf o order)) out
+  pub none-written : out ≡ bufferAfter (answered (answerOf o order)) out
   none-written = rw e
 
-  pub none-counted : 0 ≡ prefixLength (answered (outcomeOf o order))
+  pub none-counted : 0 ≡ prefixLength (answered (answerOf o order))
   none-counted = rw e
 
-module _ (t : Table) (start out : List ℕ) (b : ℕ) where
+module _ (t : Table) (passes outcome : List ℕ → Bool) (start out : List ℕ) (b : ℕ) where
+  abbrev lines : List Line
+  lines = startLines t passes start out b
+
+  abbrev reply : Reply Refused Answer
+  reply = tableReply t passes outcome start out b
+
   -- a line refuses: nothing is written
-  pub call-refused : (n : ℕ) → byLine n ≡ firstLine (t .count) (startLines t start out b) →
-      (refused (byLine n) ≡ tableReply t start out b)
-      × ((out ≡ bufferAfter (tableReply t start out b) out) × (0 ≡ prefixLength (tableReply t start out b)))
+  pub call-refused : (n : ℕ) → byLine n ≡ firstLine (t .count) lines →
+      (refused (byLine n) ≡ reply)
+      × ((out ≡ bufferAfter reply out) × (0 ≡ prefixLength reply))
   unfolding tableReply
   call-refused n e =
-      let r = ap (λ (q : Refused). answeredUnless q (search t start b)) e in
-      (r, (ap (λ (q : Reply Refused). bufferAfter q out) r, ap prefixLength r))
+      let r = ap (λ (q : Refused). replyUnless q (searchBy t passes outcome start b)) e in
+      (r, (ap (λ (q : Reply Refused Answer). bufferAfter q out) r, ap prefixLength r))
 
   -- no line refuses: the outcome is the search's answer
-  pub answer-is : (o : Outcome) (order : List ℕ) → accepted ≡ firstLine (t .count) (startLines t start out b) → Ran t start b o order →
-      answered (outcomeOf o order) ≡ tableReply t start out b
-  unfolding tableReply search
+  pub answer-is : (o : Ending) (order : List ℕ) → accepted ≡ firstLine (t .count) lines →
+      answerOf o order ≡ seek (witnessFor t outcome) (after start (prefixesBy t passes)) start b 0 → answered (answerOf o order) ≡ reply
+  unfolding tableReply searchBy
   answer-is o order e ran =
-      ap answered (ran .answer ∙ sym (seek-answer (witness t) _ start b)) ∙ ap (λ (q : Refused). answeredUnless q (search t start b)) e
+      ap answered (ran ∙ sym (seek-answer (witnessFor t outcome) _ start b))
+      ∙ ap (λ (q : Refused). replyUnless q (searchBy t passes outcome start b)) e
 
-  pub call-answered : (a r : Reply Refused) (len : ℕ) (after : List ℕ) → a ≡ tableReply t start out b →
+  pub call-answered : (a r : Reply Refused Answer) (len : ℕ) (after : List ℕ) → a ≡ reply →
       (r ≡ a) × ((after ≡ bufferAfter a out) × (len ≡ prefixLength a)) →
-      (r ≡ tableReply t start out b)
-      × ((after ≡ bufferAfter (tableReply t start out b) out) × (len ≡ prefixLength (tableReply t start out b)))
+      (r ≡ reply)
+      × ((after ≡ bufferAfter reply out) × (len ≡ prefixLength reply))
   call-answered a r len after e h =
-      (h .0 ∙ e, (h .1 .0 ∙ ap (λ (q : Reply Refused). bufferAfter q out) e, h .1 .1 ∙ ap prefixLength e))
+      (h .0 ∙ e, (h .1 .0 ∙ ap (λ (q : Reply Refused Answer). bufferAfter q out) e, h .1 .1 ∙ ap prefixLength e))
 
-  -- the lines, told one by one
-  pub start-refused : clean t start ≡ false → byLine 15 ≡ firstLine (t .count) (startLines t start out b)
+-- the lines, told one by one
+module _ (t : Table) (passes : List ℕ → Bool) (start out : List ℕ) (b : ℕ) where
+  abbrev told : List Line
+  told = startLines t passes start out b
+
+  pub start-refused : passes start ≡ false → byLine 15 ≡ firstLine (t .count) told
   unfolding startLines startWrong
   start-refused h = whole-here _ _ _ _ (ap not h)
 
-  pub room-refused : clean t start ≡ true → length out < memoryCount t → byLine 16 ≡ firstLine (t .count) (startLines t start out b)
+  pub room-refused : passes start ≡ true → length out < memoryCount t → byLine 16 ≡ firstLine (t .count) told
   unfolding startLines startWrong orderTooShort
   room-refused h l = whole-next _ _ _ _ _ (ap not h) (whole-here _ _ _ _ (lt-ltb _ _ l))
 
-  pub allowance-refused : clean t start ≡ true → memoryCount t ≤ length out → maxAllowance < b →
-      byLine 17 ≡ firstLine (t .count) (startLines t start out b)
+  pub allowance-refused : passes start ≡ true → memoryCount t ≤ length out → maxAllowance < b →
+      byLine 17 ≡ firstLine (t .count) told
   unfolding startLines startWrong orderTooShort
   allowance-refused h l m = whole-next _ _ _ _ _ (ap not h) (whole-next _ _ _ _ _ (le-ltb _ _ l) (whole-here _ _ _ _ (lt-ltb _ _ m)))
 
-  pub none-refused : clean t start ≡ true → memoryCount t ≤ length out → b ≤ maxAllowance →
-      accepted ≡ firstLine (t .count) (startLines t start out b)
+  pub none-refused : passes start ≡ true → memoryCount t ≤ length out → b ≤ maxAllowance →
+      accepted ≡ firstLine (t .count) told
   unfolding startLines startWrong orderTooShort
   none-refused h l m =
       whole-next _ _ _ _ _ (ap not h) (whole-next _ _ _ _ _ (le-ltb _ _ l) (whole-next _ _ _ _ _ (le-ltb _ _ m) (none-here _)))
@@ -112,10 +131,10 @@ module _ (t : Table) (start out : List ℕ) (b : ℕ) where
 -- the masks that the code makes of a table
 module _ {t : Table} (small : Small t) {preds : List ℕ} {mem : ℕ} (p : preds ≡ predecessorMasks t) (m : mem ≡ memoryMask t) where
   few : t .count < slots
-  few = omega (arith, small .events)
+  few = small .events
 
   pub mask-small : mem < 2 ^ limit
-  mask-small = subst (λ (x : ℕ). x < 2 ^ limit) (sym m) (memory-mask-small t few)
+  mask-small = subst (λ (x : ℕ). x < 2 ^ limit) (sym m) (memory-mask-small t limit (omega (arith, few)))
 
   pub tables-of : {succs : List ℕ} → Prepared preds succs mem → Masked t preds succs mem
   tables-of q = record { small = small; predecessors = p; memory = m; prepared = q }
@@ -137,3 +156,10 @@ module _ {t : Table} (small : Small t) {preds : List ℕ} {mem : ℕ} (p : preds
   pub began-clean : (start order : List ℕ) (len placed can : ℕ) → Began preds mem start order len placed can → clean t start ≡ true
   began-clean start order len placed can g =
       clean-by start true (subst (λ (l : List ℕ). cleanBy preds mem l ≡ true) (g .same) (g .holds .clean))
+
+-- the length that a reply says is within the buffer that its prefix is read off
+pub length-within : (r : code.Reply) (out : List ℕ) → lengthOf r ≡ prefixLength (replyOf r out) → lengthOf r ≤ length out
+length-within (Declined q) out e = omega arith
+length-within (Answered (Found len v)) out e = omega (arith, e, length-take len out)
+length-within (Answered (NoneLeft v)) out e = omega arith
+length-within (Answered (Spent len v)) out e = omega (arith, e, length-take len out)

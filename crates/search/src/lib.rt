@@ -4,22 +4,24 @@ use ready_events::Masks;
 use refusals::Refusal;
 use successors::SLOTS;
 use table::Table;
-use witness_walk::Outcome;
+use witness_walk::Ending;
 ghost use Prim.Native.Nat.{_≤_};
 ghost use mathlib.Core.List.{_++_};
 ghost use mathlib.Core.Path.{_≡_};
 ghost use lib.ListN.{length, take, drop};
 ghost use Rattle.successors.specs.CleanMasks.{slots};
-ghost use Rattle.prefixes.specs.Walk.{answered};
-ghost use Rattle.precedence.specs.Counts.{Small};
-ghost use Rattle.witness_walk.specs.Outcome.{outcomeOf};
+ghost use Rattle.lists.specs.Reply.{answered};
+ghost use Rattle.model.specs.Witness.{statedOutcome};
+ghost use Rattle.model.specs.Prefixes.{clean};
+ghost use Rattle.table.specs.Counts.{Small};
+ghost use Rattle.witness_walk.specs.Ending.{answerOf};
 ghost use Rattle.witness_walk.specs.Running.{AtMost};
 ghost use Rattle.search.specs.Replies.{tableReply, bufferAfter, replyOf, lengthOf, prefixLength};
 
 // A reply to a search call; the prefix of Found and Spent stands at the front of the answer buffer.
 pub enum Reply {
     Refused(Refusal),
-    Answered(Outcome),
+    Answered(Ending),
 }
 
 // The largest allowance.
@@ -37,22 +39,22 @@ fn copy(order: &[u8; SLOTS], len: usize, out: &mut [u8])
     }
 }
 
-// Hands out the prefix of an outcome; "none left" writes nothing.
-fn deliver(outcome: Outcome, order: &[u8; SLOTS], out: &mut [u8]) -> Reply
-    requires { ⌜ (length (now order) ≡ slots) × AtMost slots outcome × AtMost (length (now out)) outcome ⌝ }
-    ensures { λ r. ⌜ replyOf r (now (out .exit)) ≡ answered (outcomeOf outcome (now (order .entry))) ⌝ }
-    ensures { λ r. ⌜ now (out .exit) ≡ bufferAfter (answered (outcomeOf outcome (now (order .entry)))) (now (out .entry)) ⌝ }
-    ensures { λ r. ⌜ lengthOf r ≡ prefixLength (answered (outcomeOf outcome (now (order .entry)))) ⌝ }
+// Hands out the prefix of an ending; "none left" writes nothing.
+fn deliver(ending: Ending, order: &[u8; SLOTS], out: &mut [u8]) -> Reply
+    requires { ⌜ (length (now order) ≡ slots) × AtMost slots ending × AtMost (length (now out)) ending ⌝ }
+    ensures { λ r. ⌜ replyOf r (now (out .exit)) ≡ answered (answerOf ending (now (order .entry))) ⌝ }
+    ensures { λ r. ⌜ now (out .exit) ≡ bufferAfter (answered (answerOf ending (now (order .entry)))) (now (out .entry)) ⌝ }
+    ensures { λ r. ⌜ lengthOf r ≡ prefixLength (answered (answerOf ending (now (order .entry)))) ⌝ }
 {
-    match outcome {
-        Outcome::Found { len, visited } => {
+    match ending {
+        Ending::Found { len, visited } => {
             copy(order, len, out);
-            Reply::Answered(Outcome::Found { len, visited })
+            Reply::Answered(Ending::Found { len, visited })
         }
-        Outcome::NoneLeft { visited } => Reply::Answered(Outcome::NoneLeft { visited }),
-        Outcome::Spent { len, visited } => {
+        Ending::NoneLeft { visited } => Reply::Answered(Ending::NoneLeft { visited }),
+        Ending::Spent { len, visited } => {
             copy(order, len, out);
-            Reply::Answered(Outcome::Spent { len, visited })
+            Reply::Answered(Ending::Spent { len, visited })
         }
     }
 }
@@ -60,12 +62,12 @@ fn deliver(outcome: Outcome, order: &[u8; SLOTS], out: &mut [u8]) -> Reply
 // A search call on a table: refusals 15, 16 and 17, the reply and the buffer.
 pub fn search(t: Table, start: &[u8], out: &mut [u8], allowance: u64) -> Reply
     requires { ⌜ Small t ⌝ }
-    ensures { λ r. ⌜ replyOf r (now (out .exit)) ≡ tableReply t (now (start .entry)) (now (out .entry)) allowance ⌝ }
-    ensures { λ r. ⌜ now (out .exit) ≡ bufferAfter (tableReply t (now (start .entry)) (now (out .entry)) allowance) (now (out .entry)) ⌝ }
-    ensures { λ r. ⌜ lengthOf r ≡ prefixLength (tableReply t (now (start .entry)) (now (out .entry)) allowance) ⌝ }
+    ensures { λ r. ⌜ replyOf r (now (out .exit)) ≡ tableReply t (clean t) (statedOutcome t) (now (start .entry)) (now (out .entry)) allowance ⌝ }
+    ensures { λ r. ⌜ now (out .exit) ≡ bufferAfter (tableReply t (clean t) (statedOutcome t) (now (start .entry)) (now (out .entry)) allowance) (now (out .entry)) ⌝ }
+    ensures { λ r. ⌜ lengthOf r ≡ prefixLength (tableReply t (clean t) (statedOutcome t) (now (start .entry)) (now (out .entry)) allowance) ⌝ }
 {
     let pred = precedence::predecessors(t);
-    let mem = precedence::memory_mask(t);
+    let mem = table::memory_mask(t);
     let succ = successors::successors(&pred, mem);
     let mut order = [0u8; SLOTS];
     let loaded = engine::load(&pred, &succ, mem, start, &mut order);
@@ -79,17 +81,8 @@ pub fn search(t: Table, start: &[u8], out: &mut [u8], allowance: u64) -> Reply
                 return Reply::Refused(Refusal::Line(17));
             }
             let masks = Masks { placed, can };
-            let outcome = witness_walk::run(
-                t,
-                &pred,
-                &succ,
-                mem,
-                &mut order,
-                len,
-                masks,
-                allowance,
-            );
-            deliver(outcome, &order, out)
+            let ending = witness_walk::run(t, &pred, &succ, mem, &mut order, len, masks, allowance);
+            deliver(ending, &order, out)
         }
     }
 }

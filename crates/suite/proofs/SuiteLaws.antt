@@ -5,7 +5,7 @@ use mathlib.Core.Path.{_≡_, ap, _∙_}
 use lib.ListN.{length, take, length-append}
 use native.Mathlib.Omega.{arith}
 use Rattle.refusals.specs.Refusals.{refusalOf}
-use Rattle.witness_walk.specs.declared.Outcome.the-variants.{Found, NoneLeft, Spent}
+use Rattle.witness_walk.specs.declared.Ending.the-variants.{Found, NoneLeft, Spent}
 use Rattle.search.specs.declared.Reply.{Reply}
 use Rattle.search.specs.declared.Reply.the-variants.{Refused, Answered}
 use Rattle.search.specs.Replies.{replyOf}

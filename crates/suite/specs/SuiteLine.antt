@@ -7,9 +7,9 @@
 use Prim.Native.Nat.{ℕ}
 use mathlib.Core.List.{List, [], _++_}
 use lib.ListN.{replicate}
+use Rattle.lists.specs.Reply.{Reply, refused, answered}
 use Rattle.refusals.specs.Lines.{Refused}
 use Rattle.prefixes.specs.Answer.{Answer, found, noneLeft, spent}
-use Rattle.prefixes.specs.Walk.{Reply, refused, answered}
 use Rattle.bench.specs.Search.{searchReply}
 use Rattle.console.specs.Texts.{ascii, decimal, spaced}
 use Rattle.words.specs.Numbers.{numberOf}
@@ -22,12 +22,12 @@ answerText (found order n) = ascii "allowed, " ++ visited n ++ ascii ", order" +
 answerText (noneLeft n) = ascii "forbidden, " ++ visited n
 answerText (spent prefix n) = ascii "undecided, " ++ visited n
 
-abbrev pub replyText : Reply Refused → List ℕ
+abbrev pub replyText : Reply Refused Answer → List ℕ
 replyText (refused r) = ascii "refused " ++ decimal (numberOf r)
 replyText (answered a) = answerText a
 
 -- "allowance 1,000,000 from the empty start"; the answer buffer has a byte for each event that a test may have
-abbrev pub replyTo : List ℕ → Reply Refused
+abbrev pub replyTo : List ℕ → Reply Refused Answer
 replyTo block = searchReply block [] (replicate 16 0) 1000000
 
 -- the line of block k

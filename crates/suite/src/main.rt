@@ -4,10 +4,12 @@ use console::Filled;
 use console::Line;
 use edition::EditionOne;
 use search::Reply;
-use witness_walk::Outcome;
+use witness_walk::Ending;
+ghost use Prim.Native.Nat.{_≤_};
 ghost use mathlib.Core.Path.{_≡_};
-ghost use Rattle.witness_walk.specs.Outcome.{outcomeOf};
-ghost use Rattle.search.specs.Replies.{replyOf};
+ghost use lib.ListN.{length};
+ghost use Rattle.witness_walk.specs.Ending.{answerOf};
+ghost use Rattle.search.specs.Replies.{replyOf, lengthOf};
 ghost use Rattle.console.specs.Lines.{kept, AddsTo};
 ghost use Rattle.suite.specs.SuiteLine.{visited, answerText, replyText, suiteLine, closingLine};
 
@@ -20,24 +22,26 @@ fn visited(line: Line, n: u64) -> Line
     line.number(n).text(b" visited")
 }
 
-fn outcome(line: Line, o: Outcome, answer: &[u8]) -> Line
-    ensures { λ r. ⌜ AddsTo line (answerText (outcomeOf o (now (answer .entry)))) r ⌝ }
+fn ended(line: Line, o: Ending, answer: &[u8]) -> Line
+    requires { ⌜ lengthOf (Reply.Answered o) ≤ length (now answer) ⌝ }
+    ensures { λ r. ⌜ AddsTo line (answerText (answerOf o (now (answer .entry)))) r ⌝ }
 {
     match o {
-        Outcome::Found { len, visited: n } => visited(line.text(b"allowed, "), n)
+        Ending::Found { len, visited: n } => visited(line.text(b"allowed, "), n)
             .text(b", order")
-            .list(console::front(answer, len)),
-        Outcome::NoneLeft { visited: n } => visited(line.text(b"forbidden, "), n),
-        Outcome::Spent { len: _, visited: n } => visited(line.text(b"undecided, "), n),
+            .list(&answer[..len]),
+        Ending::NoneLeft { visited: n } => visited(line.text(b"forbidden, "), n),
+        Ending::Spent { len: _, visited: n } => visited(line.text(b"undecided, "), n),
     }
 }
 
 fn replied(line: Line, reply: Reply, answer: &[u8]) -> Line
+    requires { ⌜ lengthOf reply ≤ length (now answer) ⌝ }
     ensures { λ r. ⌜ AddsTo line (replyText (replyOf reply (now (answer .entry)))) r ⌝ }
 {
     match reply {
         Reply::Refused(r) => line.item(b"refused ", words::number(r)),
-        Reply::Answered(o) => outcome(line, o, answer),
+        Reply::Answered(o) => ended(line, o, answer),
     }
 }
 

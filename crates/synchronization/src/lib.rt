@@ -9,7 +9,7 @@ ghost use mathlib.Core.Bool.{_&&_, _||_};
 ghost use lib.Dec.{eqb};
 ghost use Rattle.masks.specs.Bit.{bit};
 ghost use Rattle.table.specs.Events.{capacity, readingKind, writingKind, fence, fencetso};
-ghost use Rattle.table.specs.Annotations.{acquirePc, acquireSc, releasePc, releaseSc, pr, pw, sr, sw};
+ghost use Rattle.table.specs.Annotations.{annotations, acquirePc, acquireSc, releasePc, releaseSc, pr, pw, sr, sw};
 ghost use Rattle.model.specs.Rules.{rule4, rule8};
 
 // Bits of `flags`: the annotations of a memory event, the sets of a fence.
@@ -38,6 +38,14 @@ fn flagged(e: Event, k: u32) -> bool
     ensures { λ r. ⌜ r ≡ bit (e .flags) k ⌝ }
 {
     masks::has(e.flags as u32, k)
+}
+
+// A memory event has the annotation, as the rules read it.
+fn annotated(e: Event, k: u32) -> bool
+    requires { ⌜ k < 32 ⌝ }
+    ensures { λ r. ⌜ r ≡ bit (annotations e) k ⌝ }
+{
+    flagged(e, k)
 }
 
 // Fence f orders x before y: "a reads and pr or a writes and pw, with b reads and sr or b writes and sw".
@@ -81,27 +89,27 @@ pub fn rule4(t: Table, a: EventNo, b: EventNo) -> bool
 
 // "a has an acquire."
 pub fn rule5(x: Event) -> bool
-    ensures { λ r. ⌜ r ≡ (acquirePc (x .flags) || acquireSc (x .flags)) ⌝ }
+    ensures { λ r. ⌜ r ≡ (acquirePc (annotations x) || acquireSc (annotations x)) ⌝ }
 {
-    flagged(x, Flag::ACQUIRE_PC) | flagged(x, Flag::ACQUIRE_SC)
+    annotated(x, Flag::ACQUIRE_PC) | annotated(x, Flag::ACQUIRE_SC)
 }
 
 // "b has a release."
 pub fn rule6(y: Event) -> bool
-    ensures { λ r. ⌜ r ≡ (releasePc (y .flags) || releaseSc (y .flags)) ⌝ }
+    ensures { λ r. ⌜ r ≡ (releasePc (annotations y) || releaseSc (annotations y)) ⌝ }
 {
-    flagged(y, Flag::RELEASE_PC) | flagged(y, Flag::RELEASE_SC)
+    annotated(y, Flag::RELEASE_PC) | annotated(y, Flag::RELEASE_SC)
 }
 
 fn rcsc(e: Event) -> bool
-    ensures { λ r. ⌜ r ≡ (acquireSc (e .flags) || releaseSc (e .flags)) ⌝ }
+    ensures { λ r. ⌜ r ≡ (acquireSc (annotations e) || releaseSc (annotations e)) ⌝ }
 {
-    flagged(e, Flag::ACQUIRE_SC) | flagged(e, Flag::RELEASE_SC)
+    annotated(e, Flag::ACQUIRE_SC) | annotated(e, Flag::RELEASE_SC)
 }
 
 // "Both have an RCsc annotation."
 pub fn rule7(x: Event, y: Event) -> bool
-    ensures { λ r. ⌜ r ≡ ((acquireSc (x .flags) || releaseSc (x .flags)) && (acquireSc (y .flags) || releaseSc (y .flags))) ⌝ }
+    ensures { λ r. ⌜ r ≡ ((acquireSc (annotations x) || releaseSc (annotations x)) && (acquireSc (annotations y) || releaseSc (annotations y))) ⌝ }
 {
     rcsc(x) & rcsc(y)
 }

@@ -1,2 +1,3 @@
 pub mod EventTests
 pub mod SameFields
+pub mod MemoryLaws

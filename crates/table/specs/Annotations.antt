@@ -4,7 +4,7 @@ use mathlib.Core.Bool.{Bool, _&&_, _||_}
 use Rattle.masks.specs.Bit.{bit}
 use Rattle.table.specs.declared.Event.{Event}
 use Rattle.table.specs.declared.Table.{Table}
-use Rattle.table.specs.Events.{event, memory}
+use Rattle.table.specs.Events.{event}
 
 -- "Memory flags from bit 0: acquire-RCpc, acquire-RCsc, release-RCpc, release-RCsc."
 abbrev pub acquirePc : ℕ → Bool
@@ -42,17 +42,21 @@ sw f = bit f 3
 unfoldable pub flags : Table → ℕ → ℕ
 flags t e = event t e .flags
 
+-- the annotations of a memory event, as the rules read them: those that it carries
+abbrev pub annotations : Event → ℕ
+annotations e = e .flags
+
 -- e has an acquire annotation
 unfoldable pub acquire : Table → ℕ → Bool
-acquire t e = acquiring (flags t e)
+acquire t e = acquiring (annotations (event t e))
 
 -- e has a release annotation
 unfoldable pub release : Table → ℕ → Bool
-release t e = releasing (flags t e)
+release t e = releasing (annotations (event t e))
 
 -- e has an RCsc annotation
 unfoldable pub rcsc : Table → ℕ → Bool
-rcsc t e = acquireSc (flags t e) || releaseSc (flags t e)
+rcsc t e = acquireSc (annotations (event t e)) || releaseSc (annotations (event t e))
 
 -- "Bit k of a record's mask (bit 0 lowest) names event k, an earlier event depended on"
 unfoldable pub addressDepends : Table → ℕ → ℕ → Bool

@@ -6,7 +6,7 @@ use lib.ListN.{length, getD, replicate}
 use lib.Dec.{eqb, ltb}
 use Rattle.lists.specs.Below.{below, some}
 use Rattle.lists.specs.Lists.{keep}
-use Rattle.edition.specs.declared.LocationNo.{LocationNo}
+use Rattle.masks.specs.MaskOf.{maskOf}
 use Rattle.table.specs.declared.Event.{Event}
 use Rattle.table.specs.declared.Table.{Table}
 
@@ -109,6 +109,10 @@ memoryEvents t = keep (memory t) (below (t .count))
 -- "M (the number of memory events)"
 unfoldable pub memoryCount : Table → ℕ
 memoryCount t = length (memoryEvents t)
+
+-- the mask of the memory events
+unfoldable pub memoryMask : Table → ℕ
+memoryMask t = maskOf (memoryEvents t)
 
 -- m is an LR or SC strictly between a and b
 unfoldable pub reserves : Table → ℕ → ℕ → ℕ → Bool

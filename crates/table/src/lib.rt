@@ -1,15 +1,20 @@
 // A litmus test by value, laid out as in C. Fields are wide enough to hold what reading refuses.
+use edition::EditionOne;
 use edition::EventNo;
 use edition::LocationNo;
+use masks::one_if;
 ghost use Prim.Native.Nat.{_≤_, _<_};
 ghost use mathlib.Core.Path.{_≡_};
 ghost use Rattle.lists.specs.Below.{some};
 ghost use mathlib.Core.Bool.{_&&_};
 ghost use lib.Dec.{eqb, ltb};
-ghost use Rattle.table.specs.Events.{capacity, readingKind, writingKind, memoryKind, fencingKind, reserves, paired, noEvent};
+ghost use Rattle.table.specs.Events.{capacity, readingKind, writingKind, memoryKind, fencingKind, memoryMask, reserves, paired, noEvent};
 
 // Room for 30 events and two more, so that every mask of events is a u32.
 pub const CAPACITY: usize = 32;
+
+// Room for the locations of every edition.
+pub const LOCATIONS: usize = EditionOne::LOCATIONS;
 
 // The kinds of events.
 pub struct Kind;
@@ -52,9 +57,9 @@ pub struct Table {
     pub locations: u8,
     pub count: u8,
     pub stated: u8,
-    pub initial: [u16; 8],
-    pub events: [Event; 32],
-    pub finals: [u16; 8],
+    pub initial: [u16; LOCATIONS],
+    pub events: [Event; CAPACITY],
+    pub finals: [u16; LOCATIONS],
 }
 
 // A blank: what stands in a slot past the events.
@@ -151,4 +156,18 @@ pub fn paired(t: Table, a: EventNo, b: EventNo) -> bool
     } else {
         false
     }
+}
+
+// The mask of the memory events.
+pub fn memory_mask(t: Table) -> u32
+    requires { ⌜ t .count ≤ capacity ⌝ }
+    ensures { λ r. ⌜ r ≡ memoryMask t ⌝ }
+{
+    let mut mask: u32 = 0;
+    let mut e: u8 = 0;
+    while e < t.count {
+        mask = mask | one_if(memory(t.events[e as usize]), e);
+        e += 1;
+    }
+    mask
 }

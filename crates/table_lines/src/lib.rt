@@ -105,11 +105,13 @@ fn refuse_records(t: Table) -> Refusal
     Refusal::None
 }
 
-// The first of lines 5 to 11 that holds; `extra` is what line 6 says of bytes that are no field of the table.
-pub fn refuse(t: Table, extra: bool) -> Refusal
-    ensures { λ r. ⌜ refusalOf r ≡ firstLine (t .count) (tableLines extra t) ⌝ }
+// The first of lines 5 to 11 that holds; `most` is the number of events that the edition allows, `extra` what line 6 says of
+// bytes that are no field of the table.
+pub fn refuse(t: Table, most: usize, extra: bool) -> Refusal
+    requires { ⌜ most ≤ capacity ⌝ }
+    ensures { λ r. ⌜ refusalOf r ≡ firstLine (t .count) (tableLines most extra t) ⌝ }
 {
-    if whole_lines::line5(t) {
+    if whole_lines::line5(t, most) {
         return Refusal::Line(5);
     }
     if extra | whole_lines::line6(t) {

@@ -6,16 +6,16 @@ use native.Mathlib.Omega.{arith}
 use lib.Dec.{eqb, ltb}
 use lib.ListN.{getD}
 use borrow.Author.Tests.{ltb-true, le-ltb, ne-eqb}
+use Rattle.lists.proofs.PaddedLaws.{padded-at}
 use Rattle.masks.specs.Bit.{bit}
 use Rattle.masks.proofs.BitLaws.{bit-or}
 use Rattle.masks.proofs.MaskOfLaws.{mask-below}
+use Rattle.masks.proofs.GatherLaws.{bit-if}
 use Rattle.table.specs.declared.Table.{Table}
 use Rattle.table.specs.Events.{capacity, event}
 use Rattle.model.specs.Rules.{initially}
 use Rattle.model.specs.Returns.{initialValue, writtenValue}
 use Rattle.value_masks.specs.ValueMasks.{writtenValues, initialSlot, leaving, leavingOf}
-use Rattle.prepared.proofs.GatherLaws.{bit-if}
-use Rattle.prepared.proofs.PreparedLaws.{entry-of}
 
 -- w is an event, or the initial write
 abbrev pub isWrite : Table → ℕ → Bool
@@ -48,7 +48,7 @@ module _ (t : Table) (x v : ℕ) (small : t .count ≤ initialSlot) where
           ∙ rw (
             h,
             ne-eqb initialSlot w (λ e. omega arith),
-            entry-of capacity (t .count) (λ e. event t e .written) w (omega arith) l,
+            padded-at (λ e. event t e .written) capacity (t .count) w (omega arith) l,
             and-false (eqb (initialValue t x) v),
           )
           (or-false (eqb (event t w .written) v))

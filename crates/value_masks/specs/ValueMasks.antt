@@ -7,13 +7,13 @@ use lib.Bits.{bitOr}
 use lib.Dec.{eqb}
 use Rattle.lists.specs.Below.{below}
 use Rattle.lists.specs.Lists.{keep}
+use Rattle.lists.specs.Filled.{padded}
 use Rattle.masks.specs.Bit.{bit}
 use Rattle.masks.specs.MaskOf.{maskOf}
 use Rattle.edition.specs.Limits.{maxLocations}
 use Rattle.table.specs.declared.Table.{Table}
 use Rattle.table.specs.Events.{capacity, event, location, reads}
 use Rattle.model.specs.Returns.{initialValue}
-use Rattle.prepared.specs.Prepared.{padded}
 
 -- the mask of the locations whose final value is stated
 unfoldable pub finalsOf : Table → ℕ

@@ -1,10 +1,10 @@
 // The values that a table states, as masks of the writes that leave them: prepared once for each test, like those of crate
 // `prepared`.
-use edition::EditionOne;
 use masks::has;
-use prepared::one_if;
+use masks::one_if;
 use table::CAPACITY;
 use table::Event;
+use table::LOCATIONS;
 use table::Table;
 ghost use Prim.Native.Nat.{_≤_};
 ghost use mathlib.Core.Path.{_≡_};
@@ -45,15 +45,11 @@ fn leaving(written: &[u16; CAPACITY], count: u8, initial: u16, value: u16) -> u3
 }
 
 // The initial value at the location of `e`, which a table that reading refuses may have no room for.
-fn initial_at(initial: [u16; EditionOne::LOCATIONS], e: Event) -> u16
+fn initial_at(initial: [u16; LOCATIONS], e: Event) -> u16
     ensures { λ v. ⌜ v ≡ getD initial (e .location .0) 0 ⌝ }
 {
     let x = e.location.0 as usize;
-    if x < EditionOne::LOCATIONS {
-        initial[x]
-    } else {
-        0
-    }
+    if x < LOCATIONS { initial[x] } else { 0 }
 }
 
 // For each reader the mask of the writes that leave the value that it states.
@@ -89,13 +85,13 @@ pub fn finals(t: Table) -> u32
 }
 
 // For each of these locations the mask of the writes that leave that value.
-pub fn lasting_masks(t: Table, written: &[u16; CAPACITY]) -> [u32; EditionOne::LOCATIONS]
+pub fn lasting_masks(t: Table, written: &[u16; CAPACITY]) -> [u32; LOCATIONS]
     requires { ⌜ (t .count ≤ capacity) × (t .locations ≤ maxLocations) × (now written ≡ writtenValues t) ⌝ }
     ensures { λ list. ⌜ list ≡ lastingMasks t ⌝ }
 {
     let initial = t.initial;
     let finals = t.finals;
-    let mut list = [0u32; EditionOne::LOCATIONS];
+    let mut list = [0u32; LOCATIONS];
     let mut x: u8 = 0;
     while x < t.locations {
         let k = x as usize;

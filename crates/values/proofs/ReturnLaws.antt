@@ -1,15 +1,17 @@
 -- What a reader returns from, by masks: the scan of an order from its end, and the link with the model.
 use Prim.Native.Nat.{ℕ, suc, _-_, _≤_, _<_}
 use mathlib.Core.Path.{_≡_, refl, sym, ap, ap₂, _∙_}
-use mathlib.Core.Bool.{Bool, true, false, cond, not, _&&_, _||_, or-true, and-true, true≢false, and-eq-true-iff}
-use mathlib.Core.List.{List, [], _∷_, _++_}
+use mathlib.Core.Bool.{Bool, true, false, cond, not, _&&_, _||_, and-true}
+use mathlib.Core.List.{List, _∷_, _++_}
 use native.Mathlib.Omega.{arith}
 use lib.Dec.{eqb, ltb}
 use lib.ListN.{getD, take, drop, length-take, drop-of-length-le}
 use lib.Seq.{split-at, drop-cons, getD-take}
-use borrow.Author.Tests.{eq-eqb, ne-eqb, not-true}
+use borrow.Author.Tests.{eq-eqb, ne-eqb}
 use Rattle.lists.specs.Lists.{all, has, distinct, before, lastOr}
 use Rattle.lists.proofs.BoolLaws.{and-l}
+use Rattle.lists.proofs.DistinctLaws.{before-at}
+use Rattle.lists.proofs.LastLaws.{last-same, Behind, behind-start, behind-more, behind-hit, behind-end}
 use Rattle.masks.specs.Bit.{bit}
 use Rattle.table.specs.declared.Table.{Table}
 use Rattle.table.specs.Events.{reads, writes, memory, sameLocation, po}
@@ -19,23 +21,6 @@ use Rattle.prepared.specs.Prepared.{rival, ownRival, rivalsOf, ownOf}
 use Rattle.value_masks.specs.ValueMasks.{initialSlot}
 use Rattle.masks.proofs.MaskOfLaws.{mask-below}
 use Rattle.values.specs.QuickTest.{Listed, visibleBy, returnBy}
-use Rattle.values.proofs.LastLaws.{last-same, Behind, behind-start, behind-more, behind-hit, behind-end}
-
--- an entry is in the list
-has-here : (p s : List ℕ) (e : ℕ) → has e (p ++ (e ∷ s)) ≡ true
-has-here [] s e = rw (eq-eqb e e refl)
-has-here (x ∷ p) s e = rw (has-here p s e) (or-true (eqb e x))
-
--- behind an entry of different ones stands what comes after it
-before-at : (p s : List ℕ) (e b : ℕ) → distinct (p ++ (e ∷ s)) ≡ true → before (p ++ (e ∷ s)) e b ≡ has b s
-before-at [] s e b h = rw (eq-eqb e e refl)
-before-at (x ∷ p) s e b h =
-    let t = and-eq-true-iff (not (has x (p ++ (e ∷ s)))) (distinct (p ++ (e ∷ s))) .0 h in
-    rw (ne-eqb e x (other t)) (before-at p s e b (t .1))
-  where
-    other : (not (has x (p ++ (e ∷ s))) ≡ true) × (distinct (p ++ (e ∷ s)) ≡ true) → e ≡ x → ⊥
-    other t q =
-        true≢false (sym (has-here p s e) ∙ ap (λ (y : ℕ). has y (p ++ (e ∷ s))) q ∙ not-true (has x (p ++ (e ∷ s))) (t .0))
 
 -- two ways to the same choice
 or-cond : (a b : Bool) (x y : ℕ) → cond (a || b) x y ≡ cond a x (cond b x y)

@@ -9,9 +9,13 @@ use lib.ListN.{getD}
 use borrow.Author.Tests.{ltb-true, lt-ltb, ne-eqb}
 use Rattle.lists.specs.Below.{some}
 use Rattle.lists.specs.Lists.{lastOr}
+use Rattle.lists.specs.Filled.{padded}
 use Rattle.lists.proofs.BoolLaws.{and-l, and-r, and-taken, and-left, bool-ext}
 use Rattle.lists.proofs.SomeLaws.{some-at, some-found}
+use Rattle.lists.proofs.KeepLaws.{all-weaken}
 use Rattle.lists.proofs.FilledLaws.{getD-upTo}
+use Rattle.lists.proofs.PaddedLaws.{padded-at}
+use Rattle.lists.proofs.LastLaws.{last-all, last-same, last-map}
 use Rattle.masks.specs.Bit.{bit}
 use Rattle.edition.specs.Limits.{maxLocations}
 use Rattle.table.specs.declared.Table.{Table}
@@ -20,15 +24,13 @@ use Rattle.model.specs.Rules.{initially, nothing, from}
 use Rattle.model.specs.Returns.{visible, returnOf, returnEntry, returns, writtenValue, finalValue}
 use Rattle.model.specs.Axioms.{breaksValueRead, breaksFinalValue, valuesRead, finalValues}
 use Rattle.model.specs.Witness.{isMemoryEvent, isOrder}
-use Rattle.prepared.specs.Prepared.{writesTo, rivalsOf, ownOf, writersOf, readersOf, padded, rivalMasks, ownMasks, writerMasks}
+use Rattle.prepared.specs.Prepared.{writesTo, rivalsOf, ownOf, writersOf, readersOf, rivalMasks, ownMasks, writerMasks}
 use Rattle.value_masks.specs.ValueMasks.{finalsOf, initialSlot, leavingOf, rightOf, lastingOf, rightMasks, lastingMasks}
 use Rattle.masks.proofs.MaskOfLaws.{mask-below}
-use Rattle.prepared.proofs.PreparedLaws.{entry-of}
 use Rattle.value_masks.proofs.ValueMaskLaws.{right-reads, lasting-stated}
 use Rattle.value_masks.proofs.LeavingLaws.{isWrite, slotOf, leaving-same}
 use Rattle.values.specs.QuickTest.{returnBy, breaksReadBy, valuesReadBy, breaksFinalBy, finalValuesBy}
-use Rattle.values.proofs.OrderLaws.{all-imp, order-events}
-use Rattle.values.proofs.LastLaws.{last-all, last-same, last-map}
+use Rattle.values.proofs.OrderLaws.{order-events}
 use Rattle.values.proofs.ReturnLaws.{return-same}
 
 -- a test of the numbers below m that only those below n pass
@@ -52,7 +54,7 @@ last-is : (t : Table) (gmo : List ℕ) → isOrder t gmo ≡ true → (f : ℕ �
 unfolding isMemoryEvent
 last-is t gmo o f =
     last-all (isWrite t) f initially gmo refl
-    (all-imp (isMemoryEvent t) (isWrite t) gmo
+    (all-weaken (isMemoryEvent t) (isWrite t) gmo
     (λ e i. rw (and-l (ltb e (t .count)) (memory t e) i) (or-true (eqb e initially)))
     (order-events t gmo o))
 
@@ -71,7 +73,7 @@ module _ (t : Table) (gmo : List ℕ) (small : t .count ≤ initialSlot) (order 
   module _ (r : ℕ) (l : r < t .count) (h : reads t r ≡ true) where
     -- the entry of r in an array
     entry : (f : ℕ → ℕ) → getD (padded capacity (t .count) f) r 0 ≡ f r
-    entry f = entry-of capacity (t .count) f r (omega arith) l
+    entry f = padded-at f capacity (t .count) r (omega arith) l
 
     -- reader r returns from the same write
     return-of : returnBy (getD (rivalMasks t) r 0) (getD (ownMasks t) r 0) gmo r ≡ lastOr (visible t gmo r) initialSlot gmo
@@ -128,7 +130,7 @@ module _ (t : Table) (gmo : List ℕ) (small : t .count ≤ initialSlot) (order 
       unfolding breaksFinalBy breaksFinalValue finalValue writesTo
       final-same =
           ap₂ (λ (m w : ℕ). not (bit m w))
-          (entry-of maxLocations (t .locations) (lastingOf t) x few l ∙ sym (lasting-stated t x h)) last-write
+          (padded-at (lastingOf t) maxLocations (t .locations) x few l ∙ sym (lasting-stated t x h)) last-write
           ∙ ap not (last-leaves (writesTo t x) x (getD (t .finals) x 0))
           ∙ and-taken (bit (t .stated) x) (not (eqb (finalValue t gmo x) (getD (t .finals) x 0))) h
 

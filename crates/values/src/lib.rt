@@ -1,7 +1,7 @@
 // The quick test of an order's values. It takes masks in place of the table, which is copied at each call: `rivals`, `own` and
 // `right` for each event, `writers` and `lasting` for each location (crates `prepared` and `value_masks`).
-use edition::EditionOne;
 use table::CAPACITY;
+use table::LOCATIONS;
 use value_masks::INITIAL_SLOT;
 ghost use Prim.Native.Nat.{_^_, _<_};
 ghost use mathlib.Core.Path.{_≡_};
@@ -81,8 +81,8 @@ fn final_values(
     order: &[u8; CAPACITY],
     len: usize,
     finals: u32,
-    writers: &[u32; EditionOne::LOCATIONS],
-    lasting: &[u32; EditionOne::LOCATIONS],
+    writers: &[u32; LOCATIONS],
+    lasting: &[u32; LOCATIONS],
 ) -> bool
     requires { ⌜ Listed (now order) len × (finals < 2 ^ maxLocations) ⌝ }
     ensures { λ b. ⌜ b ≡
@@ -110,8 +110,8 @@ pub fn agree(
     own: &[u32; CAPACITY],
     right: &[u32; CAPACITY],
     finals: u32,
-    writers: &[u32; EditionOne::LOCATIONS],
-    lasting: &[u32; EditionOne::LOCATIONS],
+    writers: &[u32; LOCATIONS],
+    lasting: &[u32; LOCATIONS],
 ) -> bool
     requires { ⌜ Listed (now order) len × (finals < 2 ^ maxLocations) ⌝ }
     ensures { λ b. ⌜ b ≡

@@ -12,7 +12,7 @@ use Rattle.model.specs.Verdict.{brokenAt, ppoBreak, verdict}
 use Rattle.rule_sets.specs.RuleMask.{setMask, rulesIn}
 use Rattle.rule_sets.proofs.MaskLaws.{rules-in}
 use Rattle.verdict.specs.Pairs.{LowestPair}
-use Rattle.atomicity.proofs.LowestLaws.{some-below, none-below}
+use Rattle.lists.proofs.SomeLaws.{some-below, none-below}
 
 -- k is the lowest below n that is broken
 broken-here : (n k : ℕ) (f : ℕ → Bool) (v : ℕ → Verdict) (rest : Verdict) → k ≡ lowest n f → k < n → v k ≡ brokenAt n f v rest

@@ -8,10 +8,11 @@ use table::Table;
 ghost use Prim.Native.Nat.{_≤_};
 ghost use mathlib.Core.Path.{_≡_};
 ghost use lib.ListN.{length};
+ghost use Rattle.lists.specs.Reply.{answered};
 ghost use Rattle.edition.specs.Limits.{maxLocations};
 ghost use Rattle.table.specs.Events.{capacity};
 ghost use Rattle.model.specs.Verdict.{verdict};
-ghost use Rattle.verdict.specs.Judged.{judged, judgedOf};
+ghost use Rattle.verdict.specs.Judged.{judgedOf};
 
 // What is broken, with its place; a preserved-order pair with the set of its rules, bit r - 1 for rule r.
 pub enum Axiom {
@@ -31,7 +32,7 @@ pub enum Verdict {
 // The first that is broken, in the stated order, for a candidate that nothing refuses.
 pub fn judge(t: Table, rf: &[u8], gmo: &[u8]) -> Verdict
     requires { ⌜ (t .count ≤ capacity) × (t .locations ≤ maxLocations) × (length (now rf) ≡ t .count) ⌝ }
-    ensures { λ r. ⌜ judgedOf r ≡ judged (verdict t (now (rf .entry)) (now (gmo .entry))) ⌝ }
+    ensures { λ r. ⌜ judgedOf r ≡ answered (verdict t (now (rf .entry)) (now (gmo .entry))) ⌝ }
 {
     let pair = pairs::lowest_pair(t, rf, gmo);
     if pair.a < t.count {

@@ -2,7 +2,7 @@
 use console::Input;
 use console::Line;
 use search::Reply;
-use witness_walk::Outcome;
+use witness_walk::Ending;
 
 // A call from the start that it is given, and one from the walk's own.
 const SEARCH: u8 = b'S';
@@ -24,11 +24,11 @@ fn prefix(line: Line, n: u64, len: usize) -> Line {
     visited(line, n).text(b", length ").number(len as u64)
 }
 
-fn outcome(line: Line, o: Outcome) -> Line {
+fn ended(line: Line, o: Ending) -> Line {
     match o {
-        Outcome::Found { len, visited: n } => prefix(line.text(b"found, "), n, len),
-        Outcome::NoneLeft { visited: n } => visited(line.text(b"none left, "), n),
-        Outcome::Spent { len, visited: n } => prefix(line.text(b"spent, "), n, len),
+        Ending::Found { len, visited: n } => prefix(line.text(b"found, "), n, len),
+        Ending::NoneLeft { visited: n } => visited(line.text(b"none left, "), n),
+        Ending::Spent { len, visited: n } => prefix(line.text(b"spent, "), n, len),
     }
 }
 
@@ -36,7 +36,7 @@ fn line(k: u64, reply: Reply, answer: &[u8]) {
     let begun = calls::begin(k);
     let said = match reply {
         Reply::Refused(r) => words::refused(begun, r),
-        Reply::Answered(o) => outcome(begun, o),
+        Reply::Answered(o) => ended(begun, o),
     };
     calls::end(said, answer);
 }
@@ -69,12 +69,12 @@ fn advance(k: u64, block: &[u8], start: &mut [u8], len: usize, answer: &mut [u8]
     match search(k, block, console::front(start, len), answer) {
         Reply::Refused(_) => len,
         Reply::Answered(o) => match o {
-            Outcome::NoneLeft { visited: _ } => len,
-            Outcome::Found { len: n, visited: _ } => {
+            Ending::NoneLeft { visited: _ } => len,
+            Ending::Found { len: n, visited: _ } => {
                 copy(answer, n, start);
                 n
             }
-            Outcome::Spent { len: n, visited: _ } => {
+            Ending::Spent { len: n, visited: _ } => {
                 copy(answer, n, start);
                 n
             }

@@ -7,7 +7,6 @@ ghost use mathlib.Core.Path.{_≡_};
 ghost use mathlib.Core.Bool.{_&&_, _||_, not};
 ghost use lib.Dec.{leb};
 ghost use Rattle.lists.specs.Below.{some};
-ghost use Rattle.masks.specs.Bit.{bit};
 ghost use Rattle.edition.specs.Limits.{maxLocations};
 ghost use Rattle.table.specs.Events.{capacity, memory};
 ghost use Rattle.refusals.specs.TableLines.{outside, statesMissing, line5, initialNotZero, finalNotZero, blank, pastNotBlank, line6, line11};
@@ -16,7 +15,7 @@ fn states_missing(t: Table) -> bool
     ensures { λ r. ⌜ r ≡ statesMissing t ⌝ }
 {
     let mut x: u8 = 0;
-    while (x as usize) < EditionOne::LOCATIONS {
+    while (x as usize) < table::LOCATIONS {
         if masks::has(t.stated as u32, x as u32) & (t.locations <= x) {
             return true;
         }
@@ -25,12 +24,13 @@ fn states_missing(t: Table) -> bool
     false
 }
 
-pub fn line5(t: Table) -> bool
-    ensures { λ r. ⌜ r ≡ line5 t ⌝ }
+// `most` is the number of events that the edition allows.
+pub fn line5(t: Table, most: usize) -> bool
+    ensures { λ r. ⌜ r ≡ line5 most t ⌝ }
 {
     refusals::outside(t.harts, EditionOne::HARTS)
         | refusals::outside(t.locations, EditionOne::LOCATIONS)
-        | refusals::outside(t.count, EditionOne::EVENTS)
+        | refusals::outside(t.count, most)
         | states_missing(t)
 }
 
@@ -38,7 +38,7 @@ fn initial_not_zero(t: Table) -> bool
     ensures { λ r. ⌜ r ≡ some maxLocations (initialNotZero t) ⌝ }
 {
     let mut x: u8 = 0;
-    while (x as usize) < EditionOne::LOCATIONS {
+    while (x as usize) < table::LOCATIONS {
         if (t.locations <= x) & (t.initial[x as usize] != 0) {
             return true;
         }
@@ -51,7 +51,7 @@ fn final_not_zero(t: Table) -> bool
     ensures { λ r. ⌜ r ≡ some maxLocations (finalNotZero t) ⌝ }
 {
     let mut x: u8 = 0;
-    while (x as usize) < EditionOne::LOCATIONS {
+    while (x as usize) < table::LOCATIONS {
         if !masks::has(t.stated as u32, x as u32) & (t.finals[x as usize] != 0) {
             return true;
         }

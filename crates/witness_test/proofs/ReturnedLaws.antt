@@ -8,16 +8,16 @@ use borrow.Author.Tests.{eqb-true}
 use Rattle.lists.specs.Below.{some, below, lowest}
 use Rattle.lists.specs.Lists.{all, any, has, count, before}
 use Rattle.lists.proofs.BoolLaws.{and-l, and-r, and-right}
+use Rattle.lists.proofs.DistinctLaws.{counted-has}
 use Rattle.lists.proofs.ListLaws.{all-has}
 use Rattle.lists.proofs.MemberLaws.{has-keep, below-has}
-use Rattle.lists.proofs.DistinctLaws.{counted-has}
 use Rattle.lists.proofs.SomeLaws.{some-same, every-at}
 use Rattle.table.specs.declared.Table.{Table}
-use Rattle.table.specs.Events.{reads, memory, memoryEvents, po}
+use Rattle.table.specs.Events.{memory, memoryEvents, po}
 use Rattle.model.specs.Rules.{rule1, rule2, rule3, rule4, rule5, rule6, rule7, rule8, rule9, rule10, rule11, rule12, rule13, holds, rules, staticRules, mayOrder, ppo, staticPpo}
 use Rattle.model.specs.Returns.{returns}
-use Rattle.model.specs.Axioms.{breaksPpo, preservedOrder, loadValue, atomicity, breaksAtomicity, valuesRead, finalValues}
-use Rattle.model.specs.Witness.{isMemoryEvent, isOrder, lawful, witness}
+use Rattle.model.specs.Axioms.{breaksPpo, preservedOrder, atomicity, breaksAtomicity}
+use Rattle.model.specs.Witness.{isMemoryEvent, isOrder, lawful}
 use Rattle.model.specs.Prefixes.{isPrefix, predecessorsListed, clean}
 use Rattle.model.proofs.VerdictLaws.{returns-load-value}
 use Rattle.witness_test.specs.ReturnedRules.{returnedPpo, breaksReturned}
@@ -89,25 +89,24 @@ module _ (t : Table) (gmo : List ℕ) (o : isOrder t gmo ≡ true) (c : clean t 
     unfolding preservedOrder
     preserved-same = ap not (some-same (t .count) _ _ (λ a k. some-same (t .count) _ _ (λ b l. breaks-same a b k l)))
 
-  module _ (v : (valuesRead t (returns t gmo) && finalValues t gmo) ≡ true) where
-    -- what is left to test
-    witness-left : witness t gmo ≡ (not (some (t .count) (λ a. some (t .count) (breaksReturned t (returns t gmo) gmo a))) && atomicity t (returns t gmo) gmo)
-    unfolding witness lawful
-    witness-left = rw (o, preserved-same (returns t gmo), returns-load-value t gmo, and-l (valuesRead t (returns t gmo)) (finalValues t gmo) v, and-r (valuesRead t (returns t gmo)) (finalValues t gmo) v)
-        (two-left (not (some (t .count) (λ a. some (t .count) (breaksReturned t (returns t gmo) gmo a)))) (atomicity t (returns t gmo) gmo))
-      where
-        two-left : (p a : Bool) → (true && p && true && a && true && true) ≡ (p && a)
-        two-left true true = refl
-        two-left true false = refl
-        two-left false true = refl
-        two-left false false = refl
+  -- what is left to test
+  lawful-left : lawful t gmo ≡ (not (some (t .count) (λ a. some (t .count) (breaksReturned t (returns t gmo) gmo a))) && atomicity t (returns t gmo) gmo)
+  unfolding lawful
+  lawful-left = rw (o, preserved-same (returns t gmo), returns-load-value t gmo)
+      (two-left (not (some (t .count) (λ a. some (t .count) (breaksReturned t (returns t gmo) gmo a)))) (atomicity t (returns t gmo) gmo))
+    where
+      two-left : (p a : Bool) → (true && p && true && a) ≡ (p && a)
+      two-left true true = refl
+      two-left true false = refl
+      two-left false true = refl
+      two-left false false = refl
 
-    -- a rule is broken
-    pub rule-broken : some (t .count) (λ a. some (t .count) (breaksReturned t (returns t gmo) gmo a)) ≡ true → false ≡ witness t gmo
-    rule-broken h = sym (witness-left ∙ rw h)
+  -- a rule is broken
+  pub rule-broken : some (t .count) (λ a. some (t .count) (breaksReturned t (returns t gmo) gmo a)) ≡ true → false ≡ lawful t gmo
+  rule-broken h = sym (lawful-left ∙ rw h)
 
-    -- none is: atomicity decides, by its lowest LR
-    pub atomicity-decides : (l : ℕ) → some (t .count) (λ a. some (t .count) (breaksReturned t (returns t gmo) gmo a)) ≡ false
-        → l ≡ lowest (t .count) (breaksAtomicity t (returns t gmo) gmo) → not (ltb l (t .count)) ≡ witness t gmo
-    unfolding atomicity
-    atomicity-decides l h e = ap (λ (k : ℕ). not (ltb k (t .count))) e ∙ sym (witness-left ∙ rw h)
+  -- none is: atomicity decides, by its lowest LR
+  pub atomicity-decides : (l : ℕ) → some (t .count) (λ a. some (t .count) (breaksReturned t (returns t gmo) gmo a)) ≡ false
+      → l ≡ lowest (t .count) (breaksAtomicity t (returns t gmo) gmo) → not (ltb l (t .count)) ≡ lawful t gmo
+  unfolding atomicity
+  atomicity-decides l h e = ap (λ (k : ℕ). not (ltb k (t .count))) e ∙ sym (lawful-left ∙ rw h)

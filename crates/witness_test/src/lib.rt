@@ -1,5 +1,4 @@
-// Whether a clean order whose values agree is a witness: what is left to test are atomicity and the rules that look at what was
-// returned.
+// Whether a clean order is lawful: what is left to test are atomicity and the rules that look at what was returned.
 use edition::EventNo;
 use global_order::before;
 use overlap::rule2;
@@ -10,16 +9,14 @@ use successors::SLOTS;
 use table::Table;
 ghost use Prim.Native.Nat.{_≤_, _<_};
 ghost use mathlib.Core.Path.{_≡_};
-ghost use mathlib.Core.Bool.{true, _&&_};
+ghost use mathlib.Core.Bool.{true};
 ghost use lib.ListN.{length, take};
 ghost use Rattle.lists.specs.Below.{some};
 ghost use Rattle.table.specs.Events.{capacity};
-ghost use Rattle.model.specs.Returns.{returns};
-ghost use Rattle.model.specs.Axioms.{valuesRead, finalValues};
-ghost use Rattle.model.specs.Witness.{isOrder, witness};
+ghost use Rattle.model.specs.Witness.{isOrder, lawful};
 ghost use Rattle.model.specs.Prefixes.{clean};
 ghost use Rattle.successors.specs.CleanMasks.{slots};
-ghost use Rattle.precedence.specs.Counts.{Small};
+ghost use Rattle.table.specs.Counts.{Small};
 ghost use Rattle.witness_test.specs.ReturnedRules.{breaksReturned};
 
 // Rule 2, 3 or 12 puts a before b, and the order doesn't.
@@ -75,8 +72,7 @@ fn some_broken(t: Table, rf: &[u8], gmo: &[u8]) -> bool
 // With the returns that the order determines.
 fn breaks_nothing(t: Table, gmo: &[u8], returned: &mut [u8]) -> bool
     requires { ⌜ Small t × (length (now returned) ≡ slots) × (isOrder t (now gmo) ≡ true) × (clean t (now gmo) ≡ true) ⌝ }
-    requires { ⌜ (valuesRead t (returns t (now gmo)) && finalValues t (now gmo)) ≡ true ⌝ }
-    ensures { λ r. ⌜ r ≡ witness t (now (gmo .entry)) ⌝ }
+    ensures { λ r. ⌜ r ≡ lawful t (now (gmo .entry)) ⌝ }
 {
     returns::determine(t, gmo, returned);
     let n = t.count as usize;
@@ -86,12 +82,11 @@ fn breaks_nothing(t: Table, gmo: &[u8], returned: &mut [u8]) -> bool
     !(atomicity::lowest_lr(t, &returned[..n], gmo) < t.count)
 }
 
-// The order at the front of the array is a witness.
-pub fn is_witness(t: Table, order: &[u8; SLOTS], len: usize) -> bool
+// The order at the front of the array is lawful.
+pub fn is_lawful(t: Table, order: &[u8; SLOTS], len: usize) -> bool
     requires { ⌜ Small t × (length (now order) ≡ slots) × (len ≤ slots) ⌝ }
     requires { ⌜ (isOrder t (take len (now order)) ≡ true) × (clean t (take len (now order)) ≡ true) ⌝ }
-    requires { ⌜ (valuesRead t (returns t (take len (now order))) && finalValues t (take len (now order))) ≡ true ⌝ }
-    ensures { λ r. ⌜ r ≡ witness t (take len (now (order .entry))) ⌝ }
+    ensures { λ r. ⌜ r ≡ lawful t (take len (now (order .entry))) ⌝ }
 {
     let mut returned = [0u8; SLOTS];
     let entries: &[u8] = order;

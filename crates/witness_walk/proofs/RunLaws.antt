@@ -6,26 +6,26 @@ use mathlib.Core.List.{List, [], _∷_}
 use native.Mathlib.Omega.{arith}
 use lib.ListN.{length, take, set}
 use lib.Count.{ones}
-use Rattle.masks.specs.MaskOf.{maskOf}
 use Rattle.table.specs.declared.Table.{Table}
-use Rattle.table.specs.Events.{memoryCount}
+use Rattle.table.specs.Events.{memoryCount, memoryMask}
+use Rattle.table.proofs.MemoryLaws.{memory-mask-ones}
 use Rattle.prefixes.specs.Listed.{after}
-use Rattle.prefixes.specs.Answer.{Answer, found, noneLeft, spent}
-use Rattle.model.specs.Witness.{isOrder, witness}
+use Rattle.prefixes.specs.Answer.{found, noneLeft, spent}
+use Rattle.model.specs.Witness.{isOrder, statedOutcome, witness}
 use Rattle.model.specs.Prefixes.{clean, cleanPrefixes}
-use Rattle.successors.specs.CleanMasks.{slots, limit, cleanBy, masked}
-use Rattle.engine.specs.State.{Holds, Moved, changed}
+use Rattle.successors.specs.CleanMasks.{slots, cleanBy, masked}
+use Rattle.engine.specs.State.{Holds, Moved}
 use Rattle.ready_events.proofs.CleanLaws.{clean-ones, clean-short}
 use Rattle.engine.proofs.EngineLaws.{step-none, step-spent, step-found, step-on}
-use Rattle.precedence.specs.Precedence.{predecessorMasks, memoryMask}
-use Rattle.precedence.proofs.PrecedenceLaws.{clean-same, masked-same, memory-mask-ones, whole-order, not-whole}
-use Rattle.witness_walk.specs.declared.Outcome.{Outcome}
-use Rattle.precedence.specs.Counts.{Small}
+use Rattle.precedence.specs.Precedence.{predecessorMasks}
+use Rattle.precedence.proofs.PrecedenceLaws.{clean-same, masked-same, whole-order, not-whole}
+use Rattle.witness_walk.specs.declared.Ending.{Ending}
+use Rattle.table.specs.Counts.{Small}
 use Rattle.witness_walk.specs.Running.{Masked, searchFrom, Ran}
 
 module _ {t : Table} {preds succs : List ℕ} {mem : ℕ} (tables : Masked t preds succs mem) where
   few : t .count < slots
-  few = omega (arith, tables .small .events)
+  few = tables .small .events
 
   -- the engine's list is the table's
   same-list : masked preds mem ≡ cleanPrefixes t
@@ -52,8 +52,8 @@ module _ {t : Table} {preds succs : List ℕ} {mem : ℕ} (tables : Masked t pre
     held-short = omega (arith, ap ones (state .mask), clean-ones preds mem (take len order) (state .clean), clean-short preds mem (take len order) (state .clean), total-ones)
 
     -- no prefix is left
-    pub run-none : (b v : ℕ) → after (take len order) (masked preds mem) ≡ [] → searchFrom t (take len order) b v ≡ noneLeft v
-    run-none b v e = step-none (witness t) (cleanPrefixes t) (take len order) b v (subst (λ (l : List (List ℕ)). after (take len order) l ≡ []) same-list e)
+    pub run-none : (goal : List ℕ → Bool) (b v : ℕ) → after (take len order) (masked preds mem) ≡ [] → searchFrom t goal (take len order) b v ≡ noneLeft v
+    run-none goal b v e = step-none goal (cleanPrefixes t) (take len order) b v (subst (λ (l : List (List ℕ)). after (take len order) l ≡ []) same-list e)
 
     module _ {keep event placed′ can′ : ℕ} (moved : Moved preds mem order len keep event placed′ can′) where
       -- the next prefix, as it stands in the order once the event is stored
@@ -67,20 +67,20 @@ module _ {t : Table} {preds succs : List ℕ} {mem : ℕ} (tables : Masked t pre
           (subst (λ (q : List ℕ). after (take len order) (masked preds mem) ≡ q ∷ after q (masked preds mem)) (sym (moved .stored)) (moved .first))
 
       -- a further prefix is there and nothing of the budget
-      pub run-spent : (b v : ℕ) → b ≡ 0 → searchFrom t (take len order) b v ≡ spent (take len order) v
-      run-spent b v z = step-spent (witness t) (cleanPrefixes t) (take len order) b v next first z
+      pub run-spent : (goal : List ℕ → Bool) (b v : ℕ) → b ≡ 0 → searchFrom t goal (take len order) b v ≡ spent (take len order) v
+      run-spent goal b v z = step-spent goal (cleanPrefixes t) (take len order) b v next first z
 
       -- the next prefix is a witness
-      pub run-found : (b v c : ℕ) → b ≡ suc c → witness t (take (keep + 1) (set order keep event)) ≡ true →
-          searchFrom t (take len order) b v ≡ found (take (keep + 1) (set order keep event)) (suc v)
+      pub run-found : (goal : List ℕ → Bool) (b v c : ℕ) → b ≡ suc c → goal (take (keep + 1) (set order keep event)) ≡ true →
+          searchFrom t goal (take len order) b v ≡ found (take (keep + 1) (set order keep event)) (suc v)
       unfolding next
-      run-found b v c z w = step-found (witness t) (cleanPrefixes t) (take len order) b v next first c z w
+      run-found goal b v c z w = step-found goal (cleanPrefixes t) (take len order) b v next first c z w
 
       -- it isn't: the search goes on from there
-      pub run-on : (b v c : ℕ) → b ≡ suc c → witness t (take (keep + 1) (set order keep event)) ≡ false →
-          searchFrom t (take len order) b v ≡ searchFrom t (take (keep + 1) (set order keep event)) c (suc v)
+      pub run-on : (goal : List ℕ → Bool) (b v c : ℕ) → b ≡ suc c → goal (take (keep + 1) (set order keep event)) ≡ false →
+          searchFrom t goal (take len order) b v ≡ searchFrom t goal (take (keep + 1) (set order keep event)) c (suc v)
       unfolding next
-      run-on b v c z w = step-on (witness t) (cleanPrefixes t) (take len order) b v next first c z w
+      run-on goal b v c z w = step-on goal (cleanPrefixes t) (take len order) b v next first c z w
 
 -- a clean prefix with all memory events is an order
 pub whole-is-order : (t : Table) → Small t → (p : List ℕ) → clean t p ≡ true → length p ≡ memoryCount t → isOrder t p ≡ true
@@ -88,8 +88,9 @@ whole-is-order t s p h e = whole-order t (omega (arith, s .events)) p h e
 
 -- one with fewer is no witness
 pub part-is-none : (t : Table) (p : List ℕ) → (length p ≡ memoryCount t → ⊥) → witness t p ≡ false
-part-is-none t p h = not-whole t p h
+unfolding witness
+part-is-none t p h = not-whole t (statedOutcome t) p h
 
 -- an outcome that is the same
-pub ran-as : {t : Table} {p : List ℕ} {b : ℕ} {o q : Outcome} {order : List ℕ} → o ≡ q → Ran t p b q order → Ran t p b o order
-ran-as {t} {p} {b} {order = order} e r = subst (λ (x : Outcome). Ran t p b x order) (sym e) r
+pub ran-as : {t : Table} {goal : List ℕ → Bool} {p : List ℕ} {b : ℕ} {o q : Ending} {order : List ℕ} → o ≡ q → Ran t goal p b q order → Ran t goal p b o order
+ran-as {t} {goal} {p} {b} {order = order} e r = subst (λ (x : Ending). Ran t goal p b x order) (sym e) r

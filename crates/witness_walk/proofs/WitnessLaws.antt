@@ -1,7 +1,7 @@
 -- The test of a whole order's values, against "witness".
 use Prim.Native.Nat.{ℕ, _^_, _<_}
-use mathlib.Core.Path.{_≡_, sym, subst, _∙_}
-use mathlib.Core.Bool.{true, false, _&&_, and-assoc}
+use mathlib.Core.Path.{_≡_, refl, sym, subst, _∙_}
+use mathlib.Core.Bool.{Bool, true, false, _&&_}
 use mathlib.Core.List.{List}
 use native.Mathlib.Omega.{arith}
 use Rattle.lists.proofs.BoolLaws.{and-right}
@@ -9,12 +9,16 @@ use Rattle.edition.specs.Limits.{maxLocations}
 use Rattle.table.specs.declared.Table.{Table}
 use Rattle.model.specs.Returns.{returns}
 use Rattle.model.specs.Axioms.{valuesRead, finalValues}
-use Rattle.model.specs.Witness.{isOrder, lawful, witness}
+use Rattle.model.specs.Witness.{isOrder, lawful, witnessFor, statedOutcome, witness}
 use Rattle.value_masks.proofs.ValueMaskLaws.{finals-small}
 use Rattle.values.specs.QuickTest.{valuesReadBy, finalValuesBy}
 use Rattle.values.proofs.ValueLaws.{values-agree}
-use Rattle.precedence.specs.Counts.{Small}
+use Rattle.table.specs.Counts.{Small}
 use Rattle.witness_walk.specs.Running.{Valued}
+
+and-true : (b : Bool) → (b && true) ≡ b
+and-true true = refl
+and-true false = refl
 
 module _ {t : Table} (small : Small t) {readers finals : ℕ} {rivals own right writers lasting : List ℕ}
     (facts : Valued t readers rivals own right finals writers lasting) where
@@ -36,15 +40,14 @@ module _ {t : Table} (small : Small t) {readers finals : ℕ} {rivals own right 
   -- a value differs: no witness
   pub value-differs : (gmo : List ℕ) → isOrder t gmo ≡ true →
       (valuesReadBy readers rivals own right gmo && finalValuesBy finals writers lasting gmo) ≡ false → witness t gmo ≡ false
-  unfolding witness
-  value-differs gmo o h =
-      and-assoc (lawful t gmo) (valuesRead t (returns t gmo)) (finalValues t gmo)
-      ∙ and-right (lawful t gmo) (valuesRead t (returns t gmo) && finalValues t gmo) (sym (agreed gmo o) ∙ h)
+  unfolding witness witnessFor statedOutcome
+  value-differs gmo o h = and-right (lawful t gmo) (valuesRead t (returns t gmo) && finalValues t gmo) (sym (agreed gmo o) ∙ h)
 
-  -- all agree
-  pub values-met : (gmo : List ℕ) → isOrder t gmo ≡ true →
-      (valuesReadBy readers rivals own right gmo && finalValuesBy finals writers lasting gmo) ≡ true → (valuesRead t (returns t gmo) && finalValues t gmo) ≡ true
-  values-met gmo o h = sym (agreed gmo o) ∙ h
+  -- all agree: it is a witness if it is lawful
+  pub lawful-decides : (gmo : List ℕ) → isOrder t gmo ≡ true →
+      (valuesReadBy readers rivals own right gmo && finalValuesBy finals writers lasting gmo) ≡ true → witness t gmo ≡ lawful t gmo
+  unfolding witness witnessFor statedOutcome
+  lawful-decides gmo o h = rw (sym (agreed gmo o) ∙ h) (and-true (lawful t gmo))
 
   -- the mask of the stated locations has a bit for each location
   pub final-room : finals < 2 ^ maxLocations

@@ -1,36 +1,37 @@
 // The engine's walk over a table with a counted budget, which stops at the first witness.
-use edition::EditionOne;
 use engine::Step;
 use ready_events::Masks;
 use successors::SLOTS;
+use table::LOCATIONS;
 use table::Table;
 ghost use mathlib.Core.Path.{_≡_};
 ghost use lib.ListN.{take};
 ghost use lib.Count.{ones};
+ghost use Rattle.model.specs.Witness.{witness};
 ghost use Rattle.engine.specs.State.{Holds};
 ghost use Rattle.witness_walk.specs.Running.{Masked, Valued, Ran};
 
 // The prefix of Found and Spent stands at the front of the order.
-pub enum Outcome {
+pub enum Ending {
     Found { len: usize, visited: u64 },
     NoneLeft { visited: u64 },
     Spent { len: usize, visited: u64 },
 }
 
 // The length of a prefix is the ones of its mask.
-fn found(placed: u32, visited: u64) -> Outcome
-    ensures { λ r. ⌜ r ≡ Outcome.Found (ones placed) visited ⌝ }
+fn found(placed: u32, visited: u64) -> Ending
+    ensures { λ r. ⌜ r ≡ Ending.Found (ones placed) visited ⌝ }
 {
-    Outcome::Found {
+    Ending::Found {
         len: u32::count_ones(placed) as usize,
         visited,
     }
 }
 
-fn spent(placed: u32, visited: u64) -> Outcome
-    ensures { λ r. ⌜ r ≡ Outcome.Spent (ones placed) visited ⌝ }
+fn spent(placed: u32, visited: u64) -> Ending
+    ensures { λ r. ⌜ r ≡ Ending.Spent (ones placed) visited ⌝ }
 {
-    Outcome::Spent {
+    Ending::Spent {
         len: u32::count_ones(placed) as usize,
         visited,
     }
@@ -50,16 +51,16 @@ fn walk(
     own: &[u32; SLOTS],
     right: &[u32; SLOTS],
     finals: u32,
-    writers: &[u32; EditionOne::LOCATIONS],
-    lasting: &[u32; EditionOne::LOCATIONS],
+    writers: &[u32; LOCATIONS],
+    lasting: &[u32; LOCATIONS],
     order: &mut [u8; SLOTS],
     start: usize,
     first: Masks,
     budget: u64,
-) -> Outcome
+) -> Ending
     requires { ⌜ Masked t (now pred) (now succ) mem × Holds (now pred) mem (now order) start (first .placed) (first .can) ⌝ }
     requires { ⌜ Valued t readers (now rivals) (now own) (now right) finals (now writers) (now lasting) ⌝ }
-    ensures { λ r. ⌜ Ran t (take start (now (order .entry))) budget r (now (order .exit)) ⌝ }
+    ensures { λ r. ⌜ Ran t (witness t) (take start (now (order .entry))) budget r (now (order .exit)) ⌝ }
 {
     let total = u32::count_ones(mem) as usize;
     let mut len = start;
@@ -68,7 +69,7 @@ fn walk(
     loop {
         let step = engine::next(pred, succ, mem, &*order, len, masks.placed, masks.can);
         match step {
-            Step::End => return Outcome::NoneLeft { visited },
+            Step::End => return Ending::NoneLeft { visited },
             Step::Place(keep, event, after) => {
                 if visited == budget {
                     return spent(masks.placed, visited);
@@ -95,7 +96,7 @@ fn walk(
         ) {
             continue;
         }
-        if witness_test::is_witness(t, &*order, len) {
+        if witness_test::is_lawful(t, &*order, len) {
             return found(masks.placed, visited);
         }
     }
@@ -111,9 +112,9 @@ pub fn run(
     start: usize,
     first: Masks,
     budget: u64,
-) -> Outcome
+) -> Ending
     requires { ⌜ Masked t (now pred) (now succ) mem × Holds (now pred) mem (now order) start (first .placed) (first .can) ⌝ }
-    ensures { λ r. ⌜ Ran t (take start (now (order .entry))) budget r (now (order .exit)) ⌝ }
+    ensures { λ r. ⌜ Ran t (witness t) (take start (now (order .entry))) budget r (now (order .exit)) ⌝ }
 {
     let readers = prepared::readers(t);
     let rivals = prepared::rival_masks(t);

@@ -3,7 +3,7 @@ use console::Command;
 use console::Filled;
 use console::Line;
 use search::Reply;
-use witness_walk::Outcome;
+use witness_walk::Ending;
 
 // How many prefixes a call may visit. A progress line is written when they are spent.
 const ALLOWANCE: u64 = 1_000_000;
@@ -111,10 +111,10 @@ fn last(walk: Walk) -> bool {
 }
 
 // What the walk is after a call that answered; and its line.
-fn answered(block: &[u8], walk: Walk, outcome: Outcome, answer: [u8; LIST]) -> Walk {
+fn answered(block: &[u8], walk: Walk, ending: Ending, answer: [u8; LIST]) -> Walk {
     let mut next = walk;
-    match outcome {
-        Outcome::Found { len, visited } => {
+    match ending {
+        Ending::Found { len, visited } => {
             next.prefix = answer;
             next.len = len;
             next.witnesses = sum(walk.witnesses, 1);
@@ -122,12 +122,12 @@ fn answered(block: &[u8], walk: Walk, outcome: Outcome, answer: [u8; LIST]) -> W
             next.lost = !witness(block, next);
             next.ended = next.lost;
         }
-        Outcome::NoneLeft { visited } => {
+        Ending::NoneLeft { visited } => {
             next.visited = sum(walk.visited, visited);
             next.ended = true;
             next.lost = !last(next);
         }
-        Outcome::Spent { len, visited } => {
+        Ending::Spent { len, visited } => {
             next.prefix = answer;
             next.len = len;
             next.visited = sum(walk.visited, visited);

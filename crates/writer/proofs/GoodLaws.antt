@@ -2,11 +2,10 @@
 use Prim.Native.Nat.{ℕ, _/_, _^_, _≤_, _<_}
 use mathlib.Core.Path.{_≡_, refl, sym, ap, _∙_}
 use mathlib.Core.Bool.{Bool, true, false, _&&_, _||_}
-use mathlib.Core.List.{List, _∷_}
 use native.Mathlib.Omega.{arith}
 use lib.Dec.{eqb, ltb, leb}
 use borrow.Author.Tests.{ltb-true, ltb-false, leb-true, le-ltb, le-leb, eqb-true, not-false}
-use Rattle.lists.specs.Below.{lowest, some}
+use Rattle.lists.specs.Below.{some}
 use Rattle.lists.proofs.BoolLaws.{and-l, and-r, and-right, or-off}
 use Rattle.lists.proofs.SomeLaws.{some-none, none-at}
 use Rattle.masks.specs.Bit.{bit}
@@ -16,32 +15,10 @@ use Rattle.table.specs.declared.Event.{Event}
 use Rattle.table.specs.declared.Table.{Table}
 use Rattle.table.specs.Events.{capacity, noEvent, event, hart, kind, po}
 use Rattle.table.proofs.SameFields.{event-same}
-use Rattle.refusals.specs.Lines.{accepted, byRecord, Line, whole, record-of, refusedIf, firstLine}
-use Rattle.refusals.specs.TableLines.{blank, line5, line6, initialNotZero, finalNotZero, pastNotBlank, line7, line8, line9, names, namesWrongly, dataOfNonWriter, lacksControl, recordLines, tableLines}
-use Rattle.refusals.proofs.LineLaws.{record-refuses, whole-off}
-use Rattle.refusals.proofs.InRange.{InRange, in-range}
+use Rattle.refusals.specs.Lines.{accepted, firstLine}
+use Rattle.refusals.specs.TableLines.{blank, line6, initialNotZero, finalNotZero, pastNotBlank, line9, names, namesWrongly, dataOfNonWriter, lacksControl, tableLines}
+use Rattle.refusals.proofs.TablePassed.{TablePassed, table-passed}
 use Rattle.writer.specs.Fits.{EventFits, TableFits}
-
--- no line refuses: a line of the records holds of none, and no later one refuses
-record-off : (n k : ℕ) (f : ℕ → Bool) (ls : List Line) → firstLine n (record-of k f ∷ ls) ≡ accepted → (some n f ≡ false) × (firstLine n ls ≡ accepted)
-unfolding firstLine
-record-off n k f ls h = go (some n f) h
-  where
-    go : (b : Bool) → refusedIf b (byRecord k (lowest n f)) (firstLine n ls) ≡ accepted → (b ≡ false) × (firstLine n ls ≡ accepted)
-    go true e = absurd (record-refuses k (lowest n f) e)
-    go false e = (refl, e)
-
--- lines 5, 6 and 9 of a table that isn't refused
-passed-lines : (t : Table) (extra : Bool) → firstLine (t .count) (tableLines extra t) ≡ accepted
-    → (line5 t ≡ false) × (line6 t ≡ false) × (some (t .count) (line9 t) ≡ false)
-unfolding tableLines recordLines
-passed-lines t extra h =
-    let past5 = whole-off (t .count) 5 (line5 t) (whole 6 (extra || line6 t) ∷ recordLines t) h in
-    let past6 = whole-off (t .count) 6 (extra || line6 t) (recordLines t) (past5 .1) in
-    let past7 = record-off (t .count) 7 (line7 t) _ (past6 .1) in
-    let past8 = record-off (t .count) 8 (line8 t) _ (past7 .1) in
-    let past9 = record-off (t .count) 9 (line9 t) _ (past8 .1) in
-    (past5 .0, or-off extra (line6 t) (past6 .0) .1, past9 .0)
 
 -- the last of some tests for zero
 last-zero : (b : Bool) (n : ℕ) → (b && eqb n 0) ≡ true → (b ≡ true) × (n ≡ 0)
@@ -126,21 +103,19 @@ pub record Good (t : Table) : Type 0 where
   pub masks : (k : ℕ) → k < maxEvents → MasksSmall (event t k)
   pub past : (k : ℕ) → maxEvents ≤ k → k < capacity → event t k ≡ noEvent
 
-pub good : (t : Table) (extra : Bool) → TableFits t → firstLine (t .count) (tableLines extra t) ≡ accepted → Good t
-good t extra f h = record { masks = λ k l. small k l (ltb k (t .count)) refl; past = λ k l m. past-blank t k (passed .1) (omega (arith, range .events)) m }
+pub good : (t : Table) (extra : Bool) → TableFits t → firstLine (t .count) (tableLines maxEvents extra t) ≡ accepted → Good t
+good t extra f h =
+    record { masks = λ k l. small k l (ltb k (t .count)) refl; past = λ k l m. past-blank t k (passed .unused) (omega (arith, passed .counts .events)) m }
   where
-    passed : (line5 t ≡ false) × (line6 t ≡ false) × (some (t .count) (line9 t) ≡ false)
-    passed = passed-lines t extra h
-
-    range : InRange t
-    range = in-range t (passed .0)
+    passed : TablePassed maxEvents extra t
+    passed = table-passed maxEvents extra t h
 
     small : (k : ℕ) → k < maxEvents → (b : Bool) → ltb k (t .count) ≡ b → MasksSmall (event t k)
     small k l true e =
         masks-named t k (f .each k (omega arith))
-        (λ x m n. names-early t k x (none-at (t .count) (line9 t) k (passed .2) (ltb-true k (t .count) e)) l m n)
+        (λ x m n. names-early t k x (none-at (t .count) (line9 t) k (passed .dependencies) (ltb-true k (t .count) e)) l m n)
     small k l false e =
-        let z = past-blank t k (passed .1) (ltb-false k (t .count) e) (omega arith) in
+        let z = past-blank t k (passed .unused) (ltb-false k (t .count) e) (omega arith) in
         record {
           addr = omega (arith, ap (λ (d : Event). d .addr) z);
           «data» = omega (arith, ap (λ (d : Event). d .«data») z);

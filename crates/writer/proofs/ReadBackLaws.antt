@@ -18,11 +18,11 @@ use Rattle.table.proofs.SameFields.{event-same, table-same}
 use Rattle.checksum.specs.Checksum.{checksum, covered}
 use Rattle.decode.specs.Layout.{byteAt, wordAt, recordAt, storedCheck}
 use Rattle.decode.specs.Decoded.{recordFrom, pickEvent, eventAt, initialOf, finalOf, decoded}
-use Rattle.refusals.specs.Lines.{Refused, accepted, firstLine}
+use Rattle.refusals.specs.Lines.{Refused, accepted, firstLine, unless}
 use Rattle.refusals.specs.TableLines.{tableLines}
 use Rattle.refusals.proofs.LineLaws.{whole-next}
 use Rattle.zero_bytes.specs.ZeroBytes.{bytesNotZero}
-use Rattle.block.specs.Reading.{tableIf, readingLines, readRefusal, readTable}
+use Rattle.block.specs.Reading.{blockLines, readingLines, readRefusal, readTable, noTable}
 use Rattle.record_bytes.specs.RecordBytes.{two, recordBytes}
 use Rattle.encode.specs.Encoded.{four, coveredBytes, checkBytes, encoded}
 use Rattle.encode.proofs.LengthLaws.{length-record, length-covered, length-encoded}
@@ -102,13 +102,13 @@ check-back t f =
     four-back s n g = rw (g 0 (omega arith), g 1 (omega arith), g 2 (omega arith), g 3 (omega arith)) refl
 
 -- no line refuses it
-pub read-accepted : (t : Table) → TableFits t → Good t → firstLine (t .count) (tableLines false t) ≡ accepted → readRefusal (encoded t) ≡ accepted
-unfolding readRefusal readingLines
+pub read-accepted : (t : Table) → TableFits t → Good t → firstLine (t .count) (tableLines maxEvents false t) ≡ accepted → readRefusal (encoded t) ≡ accepted
+unfolding readRefusal readingLines blockLines
 read-accepted t f g h =
     let s = encoded t in
     let p = encoded-holds t in
-    let lines : firstLine (decoded s .count) (tableLines (bytesNotZero s) (decoded s)) ≡ firstLine (t .count) (tableLines false t) =
-    ap₂ (λ (b : Bool) (u : Table). firstLine (u .count) (tableLines b u)) (zeros-back s t p) (decoded-back s t p f g) in
+    let lines : firstLine (decoded s .count) (tableLines maxEvents (bytesNotZero s) (decoded s)) ≡ firstLine (t .count) (tableLines maxEvents false t) =
+    ap₂ (λ (b : Bool) (u : Table). firstLine (u .count) (tableLines maxEvents b u)) (zeros-back s t p) (decoded-back s t p f g) in
     sym
     (whole-next _ _ _ _ _ (ap not (eq-eqb _ _ (length-encoded t)))
     (whole-next _ _ _ _ _ (ap not (eq-eqb _ _ (check-back t f)))
@@ -117,7 +117,7 @@ read-accepted t f g h =
     (sym (lines ∙ h))))))
 
 -- and the table is given back
-pub read-table : (t : Table) → TableFits t → Good t → firstLine (t .count) (tableLines false t) ≡ accepted → readTable (encoded t) ≡ t
+pub read-table : (t : Table) → TableFits t → Good t → firstLine (t .count) (tableLines maxEvents false t) ≡ accepted → readTable (encoded t) ≡ t
 unfolding readTable
 read-table t f g h =
-    ap (λ (r : Refused). tableIf r (decoded (encoded t))) (read-accepted t f g h) ∙ decoded-back (encoded t) t (encoded-holds t) f g
+    ap (λ (r : Refused). unless r (decoded (encoded t)) noTable) (read-accepted t f g h) ∙ decoded-back (encoded t) t (encoded-holds t) f g

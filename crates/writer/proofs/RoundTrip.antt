@@ -5,16 +5,16 @@ use mathlib.Core.Bool.{Bool, false, not}
 use mathlib.Core.List.{List}
 use lib.ListN.{length}
 use borrow.Author.Tests.{eq-eqb}
-use Rattle.edition.specs.Limits.{blockLength}
+use Rattle.edition.specs.Limits.{maxEvents, blockLength}
 use Rattle.table.specs.declared.Table.{Table}
 use Rattle.decode.specs.Decoded.{decoded}
-use Rattle.refusals.specs.Lines.{Refused, accepted, firstLine}
+use Rattle.refusals.specs.Lines.{Refused, accepted, firstLine, unless}
 use Rattle.refusals.specs.TableLines.{tableLines}
 use Rattle.refusals.proofs.LineLaws.{whole-next, whole-off}
 use Rattle.zero_bytes.specs.ZeroBytes.{bytesNotZero}
-use Rattle.block.specs.Reading.{line1, line2, line3, line4, tableIf, readingLines, readRefusal, readTable}
+use Rattle.block.specs.Reading.{line1, line2, line3, line4, blockLines, readingLines, readRefusal, readTable, noTable}
 use Rattle.encode.specs.Encoded.{encoded}
-use Rattle.writer.specs.Writing.{blockUnless, writingLines, writeRefusal, writtenBlock}
+use Rattle.writer.specs.Writing.{writingLines, writeRefusal, writtenBlock}
 use Rattle.writer.specs.Fits.{Bytes, TableFits}
 use Rattle.writer.specs.RoundTrip.{RoundTrip}
 use Rattle.writer.proofs.GoodLaws.{good}
@@ -22,24 +22,24 @@ use Rattle.writer.proofs.ReadBackLaws.{read-accepted, read-table}
 use Rattle.writer.proofs.WrittenBackLaws.{passed, encoded-back}
 
 -- a table and a buffer that aren't refused: no line refuses the table
-lines-passed : (t : Table) (out : List ℕ) → writeRefusal t out ≡ accepted → firstLine (t .count) (tableLines false t) ≡ accepted
+lines-passed : (t : Table) (out : List ℕ) → writeRefusal t out ≡ accepted → firstLine (t .count) (tableLines maxEvents false t) ≡ accepted
 unfolding writeRefusal writingLines
-lines-passed t out h = whole-off (t .count) 1 (line1 out) (tableLines false t) h .1
+lines-passed t out h = whole-off (t .count) 1 (line1 out) (tableLines maxEvents false t) h .1
 
 -- what no line refuses isn't refused where the buffer has 512 bytes
-write-alike : (t : Table) (out : List ℕ) → length out ≡ blockLength → writeRefusal t out ≡ firstLine (t .count) (tableLines false t)
+write-alike : (t : Table) (out : List ℕ) → length out ≡ blockLength → writeRefusal t out ≡ firstLine (t .count) (tableLines maxEvents false t)
 unfolding writeRefusal writingLines
 write-alike t out h = sym (whole-next _ _ _ _ _ (ap not (eq-eqb _ _ h)) refl)
 
 -- without a refusal the block is written
 written-is : (t : Table) (out : List ℕ) → writeRefusal t out ≡ accepted → writtenBlock t out ≡ encoded t
 unfolding writtenBlock
-written-is t out h = ap (λ (r : Refused). blockUnless r (encoded t) out) h
+written-is t out h = ap (λ (r : Refused). unless r (encoded t) out) h
 
 -- without a refusal the table is the one that the bytes stand for
 table-is : (s : List ℕ) → readRefusal s ≡ accepted → readTable s ≡ decoded s
 unfolding readTable
-table-is s h = ap (λ (r : Refused). tableIf r (decoded s)) h
+table-is s h = ap (λ (r : Refused). unless r (decoded s) noTable) h
 
 -- reading what was written
 read-back : (t : Table) (out : List ℕ) → TableFits t → writeRefusal t out ≡ accepted
@@ -75,11 +75,11 @@ one-table t u o p f g h k e = sym (read-back t o f h .1) ∙ ap readTable e ∙ 
 refused-alike : (s out : List ℕ) → length out ≡ blockLength
     → line1 s ≡ false → line2 s ≡ false → line3 s ≡ false → line4 s ≡ false → bytesNotZero s ≡ false
     → writeRefusal (decoded s) out ≡ readRefusal s
-unfolding readRefusal readingLines
+unfolding readRefusal readingLines blockLines
 refused-alike s out n l1 l2 l3 l4 z =
     let t = decoded s in
-    let extra : firstLine (t .count) (tableLines false t) ≡ firstLine (t .count) (tableLines (bytesNotZero s) t) =
-    ap (λ (b : Bool). firstLine (t .count) (tableLines b t)) (sym z) in
+    let extra : firstLine (t .count) (tableLines maxEvents false t) ≡ firstLine (t .count) (tableLines maxEvents (bytesNotZero s) t) =
+    ap (λ (b : Bool). firstLine (t .count) (tableLines maxEvents b t)) (sym z) in
     write-alike t out n
     ∙ whole-next _ _ _ _ _ l1 (whole-next _ _ _ _ _ l2 (whole-next _ _ _ _ _ l3 (whole-next _ _ _ _ _ l4 extra)))
 

@@ -1,35 +1,25 @@
 -- What writing gives once the refusal is known.
-use Prim.Native.Nat.{ℕ, _+_, _≤_, _<_}
-use mathlib.Core.Path.{_≡_, refl, sym, ap, _∙_}
+use Prim.Native.Nat.{ℕ}
+use mathlib.Core.Path.{_≡_, refl, ap, _∙_}
 use mathlib.Core.Bool.{false, not}
 use mathlib.Core.List.{List}
-use native.Mathlib.Numerals.{add-one}
-use lib.ListN.{length, getD, take, set}
-use lib.Seq.{take-suc, take-suc-set, take-all}
+use lib.ListN.{length}
 use borrow.Author.Tests.{eq-eqb, ne-eqb}
-use Rattle.edition.specs.Limits.{blockLength}
+use Rattle.edition.specs.Limits.{maxEvents, blockLength}
 use Rattle.table.specs.declared.Table.{Table}
-use Rattle.refusals.specs.Lines.{Refused, byLine, firstLine}
+use Rattle.refusals.specs.Lines.{Refused, byLine, firstLine, unless}
 use Rattle.refusals.specs.TableLines.{tableLines}
 use Rattle.refusals.proofs.LineLaws.{whole-here, whole-next}
 use Rattle.encode.specs.Encoded.{encoded}
-use Rattle.writer.specs.Writing.{blockUnless, writingLines, writeRefusal, writtenBlock}
-
--- one more byte is copied
-pub copy-more : (b o : List ℕ) (i : ℕ) → i < length o → i < length b → take i o ≡ take i b → take (i + 1) (set o i (getD b i 0)) ≡ take (i + 1) b
-copy-more b o i h k e = rw (add-one i, take-suc-set o i (getD b i 0) h, take-suc b i 0 k, e)
-
--- all are copied
-pub copy-done : (b o : List ℕ) (i : ℕ) → length o ≤ i → length b ≤ i → take i o ≡ take i b → o ≡ b
-copy-done b o i h k e = sym (take-all i o h) ∙ e ∙ take-all i b k
+use Rattle.writer.specs.Writing.{writingLines, writeRefusal, writtenBlock}
 
 -- a refusal and a buffer are those of a table and the buffer that it was lent
 abbrev pub Writes : Table → List ℕ → Refused → List ℕ → Type 0
 Writes t out r now = (r ≡ writeRefusal t out) × (now ≡ writtenBlock t out)
 
-writes : (t : Table) (out : List ℕ) (r : Refused) (now : List ℕ) → r ≡ writeRefusal t out → now ≡ blockUnless r (encoded t) out → Writes t out r now
+writes : (t : Table) (out : List ℕ) (r : Refused) (now : List ℕ) → r ≡ writeRefusal t out → now ≡ unless r (encoded t) out → Writes t out r now
 unfolding writtenBlock
-writes t out r now e h = (e, h ∙ ap (λ (q : Refused). blockUnless q (encoded t) out) e)
+writes t out r now e h = (e, h ∙ ap (λ (q : Refused). unless q (encoded t) out) e)
 
 -- The buffer has another length: the number, and the buffer left alone.
 module _ (t : Table) (out : List ℕ) (h : length out ≡ blockLength → ⊥) where
@@ -41,7 +31,7 @@ module _ (t : Table) (out : List ℕ) (h : length out ≡ blockLength → ⊥) w
   left-short = writes t out (byLine 1) out refused-short refl .1
 
 -- it has 512 bytes: lines 5 to 11 decide
-pub writes-whole : (t : Table) (out : List ℕ) (r : Refused) (now : List ℕ) → length out ≡ blockLength → r ≡ firstLine (t .count) (tableLines false t)
-    → now ≡ blockUnless r (encoded t) out → Writes t out r now
+pub writes-whole : (t : Table) (out : List ℕ) (r : Refused) (now : List ℕ) → length out ≡ blockLength → r ≡ firstLine (t .count) (tableLines maxEvents false t)
+    → now ≡ unless r (encoded t) out → Writes t out r now
 unfolding writeRefusal writingLines
 writes-whole t out r now h e f = writes t out r now (whole-next _ _ _ _ _ (ap not (eq-eqb _ _ h)) e) f

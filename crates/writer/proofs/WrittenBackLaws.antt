@@ -2,7 +2,7 @@
 use Prim.Native.Nat.{ℕ, _+_, _*_, _<_, _≤_}
 use mathlib.Core.Path.{_≡_, refl, sym, ap, subst, _∙_}
 use mathlib.Core.Bool.{Bool, false, not, _||_}
-use mathlib.Core.List.{List, _∷_, _++_}
+use mathlib.Core.List.{List, [], _++_}
 use native.Mathlib.Nat.{add-zero}
 use native.Mathlib.Omega.{arith}
 use lib.Dec.{eqb}
@@ -13,16 +13,16 @@ use Rattle.lists.proofs.BoolLaws.{or-off}
 use Rattle.lists.proofs.FilledLaws.{getD-upTo}
 use Rattle.edition.specs.Limits.{editionNumber, maxEvents, maxLocations, blockLength}
 use Rattle.table.specs.declared.Event.{Event}
-use Rattle.table.specs.declared.Table.{Table}
 use Rattle.table.specs.Events.{capacity, noEvent, event}
 use Rattle.checksum.specs.Checksum.{checksum, covered}
 use Rattle.decode.specs.Layout.{byteAt, wordAt, editionAt, recordAt, storedCheck}
 use Rattle.decode.specs.Decoded.{recordFrom, eventAt, initialOf, finalOf, decoded}
-use Rattle.refusals.specs.Lines.{accepted, whole, firstLine}
-use Rattle.refusals.specs.TableLines.{line5, line6, recordLines, tableLines}
+use Rattle.refusals.specs.Lines.{accepted, firstLine}
+use Rattle.refusals.specs.TableLines.{tableLines}
 use Rattle.refusals.proofs.LineLaws.{whole-off}
 use Rattle.zero_bytes.specs.ZeroBytes.{headerZeros, tailZeros, bytesNotZero}
-use Rattle.block.specs.Reading.{line1, line2, line3, line4, readingLines, readRefusal}
+use Rattle.block.specs.Reading.{line1, line2, line3, line4, blockLines, readRefusal}
+use Rattle.block.proofs.ReadingLaws.{passed-parts, passed-table}
 use Rattle.record_bytes.specs.RecordBytes.{two, codeBytes, maskBytes, operationBytes, recordBytes}
 use Rattle.encode.specs.Encoded.{four, markerBytes, countBytes, statedBytes, coveredBytes, checkBytes, encoded}
 use Rattle.encode.proofs.LengthLaws.{length-covered, length-encoded}
@@ -39,34 +39,28 @@ pub record Passed (s : List ℕ) : Type 0 where
   pub marker : line3 s ≡ false
   pub edition : byteAt s editionAt ≡ editionNumber
   pub zero : bytesNotZero s ≡ false
-  pub lines : firstLine (decoded s .count) (tableLines false (decoded s)) ≡ accepted
-
--- the bytes named zero are part of line 6
-extra-off : (t : Table) (extra : Bool) → firstLine (t .count) (tableLines extra t) ≡ accepted → extra ≡ false
-unfolding tableLines
-extra-off t extra h =
-    let past5 = whole-off (t .count) 5 (line5 t) (whole 6 (extra || line6 t) ∷ recordLines t) h in
-    or-off extra (line6 t) (whole-off (t .count) 6 (extra || line6 t) (recordLines t) (past5 .1) .0) .0
+  pub lines : firstLine (decoded s .count) (tableLines maxEvents false (decoded s)) ≡ accepted
 
 equal-of : (a b : ℕ) → not (eqb a b) ≡ false → a ≡ b
 equal-of a b h = eqb-true a b (not-false (eqb a b) h)
 
 pub passed : (s : List ℕ) → readRefusal s ≡ accepted → Passed s
-unfolding readRefusal readingLines
+unfolding blockLines
 passed s h =
     let t = decoded s in
-    let past1 = whole-off (t .count) 1 (line1 s) _ h in
+    let both = passed-parts s h in
+    let past1 = whole-off (t .count) 1 (line1 s) _ (both .0) in
     let past2 = whole-off (t .count) 2 (line2 s) _ (past1 .1) in
     let past3 = whole-off (t .count) 3 (line3 s) _ (past2 .1) in
-    let past4 = whole-off (t .count) 4 (line4 s) (tableLines (bytesNotZero s) t) (past3 .1) in
-    let zero = extra-off t (bytesNotZero s) (past4 .1) in
+    let past4 = whole-off (t .count) 4 (line4 s) [] (past3 .1) in
+    let zero = passed-table s h .bytes in
     record {
       long = equal-of (length s) blockLength (past1 .0);
       check = equal-of (storedCheck s) (checksum s) (past2 .0);
       marker = past3 .0;
       edition = equal-of (byteAt s editionAt) editionNumber (past4 .0);
       zero = zero;
-      lines = subst (λ (b : Bool). firstLine (t .count) (tableLines b t) ≡ accepted) zero (past4 .1);
+      lines = subst (λ (b : Bool). firstLine (t .count) (tableLines maxEvents b t) ≡ accepted) zero (both .1);
     }
 
 module _ (s : List ℕ) (bytes : Bytes s) where

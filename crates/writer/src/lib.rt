@@ -26,7 +26,7 @@ fn write_whole(t: Table, out: &mut [u8]) -> Refusal
     ensures { λ r. ⌜ refusalOf r ≡ writeRefusal t (now (out .entry)) ⌝ }
     ensures { λ r. ⌜ now (out .exit) ≡ writtenBlock t (now (out .entry)) ⌝ }
 {
-    let refusal = table_lines::refuse(t, false);
+    let refusal = table_lines::refuse(t, EditionOne::EVENTS, false);
     match refusal {
         Refusal::None => {
             copy(encode::encode(t), out);

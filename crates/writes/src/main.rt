@@ -5,9 +5,8 @@ use edition::LocationNo;
 use refusals::Refusal;
 use table::CAPACITY;
 use table::Event;
+use table::LOCATIONS;
 use table::Table;
-
-const LOCATIONS: usize = 8;
 
 // No buffer of a stream is longer.
 const LONGEST: usize = 2048;

@@ -13,8 +13,8 @@ refusal-word-requires c κs = search needs
 enum-known-reply-2 : tie.Need-enum-known-reply-2
 enum-known-reply-2 c = search needs
 
-outcome-word-requires : tie.Need-outcome-word-requires
-outcome-word-requires c κs = subst GivenFits (c .before .reply2 .given .1) (c .before .before .before .pre)
+ending-word-requires : tie.Need-ending-word-requires
+ending-word-requires c κs = subst GivenFits (c .before .reply2 .given .1) (c .before .before .before .pre)
 
 returns : tie.Need-returns
 returns c = search needs
@@ -29,6 +29,6 @@ reply-word-spec =
     enum-known-reply
     refusal-word-requires
     enum-known-reply-2
-    outcome-word-requires
+    ending-word-requires
     returns
     returns-2)

@@ -1,7 +1,7 @@
 use mathlib.Core.Path.{ap, _∙_}
 use native.Mathlib.Omega.{arith}
 use lib.Count.{ones, ones-le}
-use Rattle.precedence.proofs.PrecedenceLaws.{memory-mask-ones}
+use Rattle.table.proofs.MemoryLaws.{memory-mask-ones}
 use borrow.Author.Needs.{needs}
 use Rattle.answers.proofs.total.Statement.{statement}
 use Rattle.answers.proofs.total.Tie as tie

@@ -6,7 +6,7 @@ use Rattle.lists.proofs.ScanLaws.{Scanned, scan-start, scan-more, scan-hit, sca
 use Rattle.table.specs.Events.{kind, event}
 use Rattle.model.specs.Axioms.{breaksAtomicity}
 use Rattle.atomicity.proofs.AtomicityLaws.{only-lr}
-use Rattle.atomicity.proofs.LowestLaws.{some-below, none-below}
+use Rattle.lists.proofs.SomeLaws.{some-below, none-below}
 use borrow.Author.Needs.{needs}
 use Rattle.atomicity.proofs.lowest_lr.Statement.{statement}
 use Rattle.atomicity.proofs.lowest_lr.Tie as tie

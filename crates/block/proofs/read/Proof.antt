@@ -3,7 +3,7 @@ use mathlib.Core.Path.{ap}
 use mathlib.Core.Bool.{not}
 use Rattle.refusals.proofs.LineLaws.{whole-here}
 use Rattle.block.proofs.ReadingLaws.{reads-refused}
-use Rattle.block.specs.Reading.{readRefusal, readingLines}
+use Rattle.block.specs.Reading.{readRefusal, readingLines, blockLines}
 use borrow.Author.Needs.{needs}
 use Rattle.block.proofs.read.Statement.{statement}
 use Rattle.block.proofs.read.Tie as tie
@@ -12,7 +12,7 @@ refused-requires : tie.Need-refused-requires
 refused-requires c κs = search needs
 
 returns : tie.Need-returns
-unfolding readRefusal readingLines
+unfolding readRefusal readingLines blockLines
 returns c = reads-refused _ 1 _ _ (whole-here _ _ _ _ (ap not (ne-eqb _ _ (c .before .if1 .taken)))) (c .refused .ensures)
 
 read-whole-requires : tie.Need-read-whole-requires

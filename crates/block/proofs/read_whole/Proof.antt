@@ -3,7 +3,7 @@ use mathlib.Core.Path.{ap, sym, _∙_}
 use mathlib.Core.Bool.{not}
 use Rattle.refusals.proofs.LineLaws.{whole-here, whole-next}
 use Rattle.block.proofs.ReadingLaws.{reads-refused, reads-table}
-use Rattle.block.specs.Reading.{readRefusal, readingLines}
+use Rattle.block.specs.Reading.{readRefusal, readingLines, blockLines}
 use borrow.Author.Needs.{needs}
 use Rattle.block.proofs.read_whole.Statement.{statement}
 use Rattle.block.proofs.read_whole.Tie as tie
@@ -18,7 +18,7 @@ refused-requires : tie.Need-refused-requires
 refused-requires c κs = search needs
 
 returns : tie.Need-returns
-unfolding readRefusal readingLines
+unfolding readRefusal readingLines blockLines
 returns c =
     reads-refused _ 2 _ _
     (whole-next _ _ _ _ _ (ap not (eq-eqb _ _ (c .before .before .before .before .before .pre)))
@@ -32,7 +32,7 @@ refused-requires-2 : tie.Need-refused-requires-2
 refused-requires-2 c κs = search needs
 
 returns-2 : tie.Need-returns-2
-unfolding readRefusal readingLines
+unfolding readRefusal readingLines blockLines
 returns-2 c =
     reads-refused _ 3 _ _
     (whole-next _ _ _ _ _ (ap not (eq-eqb _ _ (c .before .before .before .before .before .before .before .pre)))
@@ -47,7 +47,7 @@ refused-requires-3 : tie.Need-refused-requires-3
 refused-requires-3 c κs = search needs
 
 returns-3 : tie.Need-returns-3
-unfolding readRefusal readingLines
+unfolding readRefusal readingLines blockLines
 returns-3 c =
     reads-refused _ 4 _ _
     (whole-next _ _ _ _ _ (ap not (eq-eqb _ _ (c .before .before .before .before .before .before .before .before .before .pre)))
@@ -69,7 +69,7 @@ table-if-requires : tie.Need-table-if-requires
 table-if-requires c κs = search needs
 
 returns-4 : tie.Need-returns-4
-unfolding readRefusal readingLines
+unfolding readRefusal readingLines blockLines
 returns-4 c =
     reads-table _ _ _ _
     (whole-next _ _ _ _ _ (ap not (eq-eqb _ _ (c .before .before .before .before .before .before .before .before .before .before .before .before .pre)))

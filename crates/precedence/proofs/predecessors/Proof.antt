@@ -1,26 +1,20 @@
-use Prim.Native.Nat.{_-_, _≤_}
-use mathlib.Core.Path.{_≡_}
-use mathlib.Core.List.{_++_}
+use Prim.Native.Nat.{_-_}
 use native.Mathlib.Omega.{arith}
-use lib.ListN.{drop}
 use borrow.Author.Needs.{needs}
-use Rattle.lists.specs.Filled.{upTo}
-use Rattle.lists.proofs.FilledLaws.{fill-more}
+use Rattle.lists.proofs.PaddedLaws.{Padded, pad-start, pad-more, pad-end}
 use Rattle.successors.specs.CleanMasks.{slots}
 use Rattle.precedence.specs.Precedence.{predecessorMask, predecessorMasks}
-use Rattle.precedence.proofs.LoopLaws.{fill-end}
 use Rattle.precedence.proofs.predecessors.Statement.{statement}
 use Rattle.precedence.proofs.predecessors.Tie as tie
 
 abbrev Inv-loop : tie.InvT-loop
-Inv-loop t rows₀ b₀ rows b = (b ≤ t .count) × (rows ≡ upTo b (predecessorMask t) ++ drop b rows₀)
+Inv-loop t rows₀ b₀ rows b = Padded (predecessorMask t) slots (t .count) b rows
 
 abbrev μ-loop : tie.MeasureT-loop
 μ-loop t rows₀ b₀ rows b = t .count - b
 
 loop-holds : tie.Need-loop-holds Inv-loop μ-loop
-unfolding upTo
-loop-holds c = search needs
+loop-holds c = pad-start _ _ _
 
 row-requires : tie.Need-row-requires Inv-loop μ-loop
 row-requires c κs = search needs
@@ -42,14 +36,12 @@ loop-less c = search needs
 
 loop-again : tie.Need-loop-again Inv-loop μ-loop
 loop-again c =
-    let v = c .before .before .before .loop in
-    (omega arith, fill-more _ _ (v .rows) (v .b) (v .inv .1) (omega arith) (c .row .ensures))
+    let d = c .before .before .before in
+    pad-more _ _ _ _ _ _ (d .before .pre) (d .loop .inv) (omega arith) (c .row .ensures)
 
 returns : tie.Need-returns Inv-loop μ-loop
 unfolding predecessorMasks
-returns c =
-    let v = c .before .before .loop in
-    fill-end _ (v .b) _ slots _ (v .inv .1) (c .if1 .left) (v .inv .0) (omega arith)
+returns c = pad-end _ _ _ _ _ (c .before .before .loop .inv) (omega arith)
 
 pub predecessors-spec : {M : Type 1} → statement M
 predecessors-spec =

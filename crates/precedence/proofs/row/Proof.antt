@@ -1,11 +1,13 @@
-use mathlib.Core.Path.{sym, _∙_}
+use Prim.Native.Nat.{_-_}
+use mathlib.Core.Logic.{⊎-elim}
+use mathlib.Core.Path.{sym}
 use native.Mathlib.Omega.{arith}
 use borrow.Author.Needs.{needs}
+use Rattle.masks.proofs.GatherLaws.{Gathered, gather-start, gather-more, gather-skip, gather-end}
 use Rattle.model.specs.Rules.{mayOrder, staticPpo}
 use Rattle.table.proofs.EventTests.{ofEvents}
 use Rattle.static_rules.proofs.StaticLaws.{static-left}
 use Rattle.precedence.specs.Precedence.{predecessorMask}
-use Rattle.precedence.proofs.LoopLaws.{Gathered, gather-start, gather-take, gather-skip, gather-end}
 use Rattle.precedence.proofs.row.Statement.{statement}
 use Rattle.precedence.proofs.row.Tie as tie
 
@@ -13,7 +15,7 @@ abbrev Inv-loop : tie.InvT-loop
 Inv-loop b t y mask₀ a₀ mask a = Gathered (λ x. staticPpo t x (b .0)) (t .count) a mask
 
 abbrev μ-loop : tie.MeasureT-loop
-μ-loop b t y mask₀ a₀ mask a = a
+μ-loop b t y mask₀ a₀ mask a = t .count - a
 
 cast-y : tie.Need-cast-y Inv-loop μ-loop
 cast-y c = search needs
@@ -26,9 +28,6 @@ element-copy-out-y c = search needs
 
 loop-holds : tie.Need-loop-holds Inv-loop μ-loop
 loop-holds c = gather-start _ _
-
-sub-a : tie.Need-sub-a Inv-loop μ-loop
-sub-a c = search needs
 
 cast-x : tie.Need-cast-x Inv-loop μ-loop
 cast-x c = search needs
@@ -45,42 +44,27 @@ may-order-requires c κs = search needs
 static-ppo-requires : tie.Need-static-ppo-requires Inv-loop μ-loop
 static-ppo-requires c κs = search needs
 
-cast-one : tie.Need-cast-one Inv-loop μ-loop
-cast-one c = search needs
+one-if-requires : tie.Need-one-if-requires Inv-loop μ-loop
+one-if-requires c κs = search needs
 
-one-requires : tie.Need-one-requires Inv-loop μ-loop
-one-requires c κs = search needs
+add-a : tie.Need-add-a Inv-loop μ-loop
+add-a c = search needs
 
 loop-less : tie.Need-loop-less Inv-loop μ-loop
 loop-less c = search needs
 
 loop-again : tie.Need-loop-again Inv-loop μ-loop
-loop-again c =
-    let d = c .before .before in
-    let v = d .before .before .before .before .before .loop in
-    gather-take _ _ (v .a) (v .mask) _ (v .inv) (omega arith) (c .one .ensures) (sym (d .static-ppo .ensures) ∙ c .before .if2 .taken)
-
-loop-less-2 : tie.Need-loop-less-2 Inv-loop μ-loop
-loop-less-2 c = search needs
-
-loop-again-2 : tie.Need-loop-again-2 Inv-loop μ-loop
-loop-again-2 c =
-    let d = c .before in
-    let v = d .before .before .before .before .before .loop in
-    gather-skip _ _ (v .a) (v .mask) (v .inv) (omega arith) (sym (d .static-ppo .ensures) ∙ c .if2 .left)
-
-loop-less-3 : tie.Need-loop-less-3 Inv-loop μ-loop
-loop-less-3 c = search needs
-
-loop-again-3 : tie.Need-loop-again-3 Inv-loop μ-loop
 unfolding mayOrder ofEvents
-loop-again-3 c =
+loop-again c =
     let v = c .before .before .before .before .loop in
-    gather-skip _ _ (v .a) (v .mask) (v .inv) (omega arith) (sym (static-left _ _ _ (rw (c .before .may-order .ensures) at (c .if1 .left))))
+    ⊎-elim
+    (λ w. rw (w .3) (gather-more _ _ _ _ _ (v .inv) (omega arith) (rw (w .1 .ensures) at (w .2 .ensures))))
+    (λ w. rw (w .1) (gather-skip _ _ _ _ (v .inv) (omega arith) (sym (static-left _ _ _ (rw (c .before .may-order .ensures) at (w .0 .left))))))
+    (c .if1 .came)
 
 returns : tie.Need-returns Inv-loop μ-loop
 unfolding predecessorMask
-returns c = gather-end _ _ _ _ (c .before .loop .inv) (c .loop-test .left)
+returns c = gather-end _ _ _ _ (c .before .loop .inv) (omega arith)
 
 pub row-spec : {M : Type 1} → statement M
 row-spec =
@@ -92,18 +76,13 @@ row-spec =
     mul-y
     element-copy-out-y
     loop-holds
-    sub-a
     cast-x
     mul-x
     element-copy-out-x
     may-order-requires
     static-ppo-requires
-    cast-one
-    one-requires
+    one-if-requires
+    add-a
     loop-less
     loop-again
-    loop-less-2
-    loop-again-2
-    loop-less-3
-    loop-again-3
     returns)

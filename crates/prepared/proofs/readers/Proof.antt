@@ -2,7 +2,7 @@ use Prim.Native.Nat.{_-_}
 use native.Mathlib.Omega.{arith}
 use Rattle.table.specs.Events.{reads, kind, event}
 use Rattle.prepared.specs.Prepared.{readersOf}
-use Rattle.prepared.proofs.GatherLaws.{Gathered, gather-start, gather-more, gather-end}
+use Rattle.masks.proofs.GatherLaws.{Gathered, gather-start, gather-more, gather-end}
 use borrow.Author.Needs.{needs}
 use Rattle.prepared.proofs.readers.Statement.{statement}
 use Rattle.prepared.proofs.readers.Tie as tie

@@ -6,7 +6,7 @@ use Rattle.lists.proofs.BoolLaws.{and-r}
 use Rattle.edition.specs.Limits.{maxLocations}
 use Rattle.table.specs.Events.{writes, location, kind, event}
 use Rattle.prepared.specs.Prepared.{writesTo, writersOf}
-use Rattle.prepared.proofs.SortLaws.{Sorted, sort-start, sort-one, sort-none, sort-end}
+use Rattle.masks.proofs.SortLaws.{Sorted, sort-start, sort-one, sort-none, sort-end}
 use borrow.Author.Needs.{needs}
 use Rattle.prepared.proofs.writer_masks.Statement.{statement}
 use Rattle.prepared.proofs.writer_masks.Tie as tie

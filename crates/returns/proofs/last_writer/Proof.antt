@@ -5,7 +5,7 @@ use native.Mathlib.Omega.{arith}
 use lib.ListN.{length}
 use Rattle.model.specs.Rules.{initially}
 use Rattle.returns.specs.Writers.{writesTo}
-use Rattle.returns.proofs.LastLaws.{LastSoFar, last-hit, last-skip, last-end}
+use Rattle.lists.proofs.LastLaws.{LastSoFar, last-hit, last-skip, last-end}
 use borrow.Author.Needs.{needs}
 use Rattle.returns.proofs.last_writer.Statement.{statement}
 use Rattle.returns.proofs.last_writer.Tie as tie

@@ -6,7 +6,7 @@ use lib.ListN.{length, length-map}
 use Rattle.table.specs.Events.{event, kind, hart, location, writes, sameLocation, po}
 use Rattle.model.specs.Rules.{initially}
 use Rattle.model.specs.Returns.{visible, returnOf}
-use Rattle.returns.proofs.LastLaws.{LastSoFar, last-hit, last-skip, last-end}
+use Rattle.lists.proofs.LastLaws.{LastSoFar, last-hit, last-skip, last-end}
 use Rattle.returns.proofs.ReturnLaws.{past-slots}
 use borrow.Author.Needs.{needs}
 use Rattle.returns.proofs.return_of.Statement.{statement}

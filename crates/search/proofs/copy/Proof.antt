@@ -1,22 +1,22 @@
-use mathlib.Core.List.{List}
-use lib.ListN.{getD, length-set}
 use Prim.Native.Nat.{ℕ, _≤_, _-_}
-use mathlib.Core.Path.{_≡_, refl, ap, _∙_}
+use mathlib.Core.Path.{_≡_, refl, sym, ap, _∙_}
+use mathlib.Core.List.{List, _++_}
 use native.Mathlib.Omega.{arith}
-use mathlib.Core.List.{_++_}
-use lib.ListN.{length, take, drop}
-use Rattle.search.proofs.CopyLaws.{copy-more}
+use lib.ListN.{length, getD, drop, length-set}
+use Rattle.lists.specs.Filled.{upTo}
+use Rattle.lists.proofs.FilledLaws.{take-filled, fill-more}
 use borrow.Author.Needs.{needs}
 use Rattle.search.proofs.copy.Statement.{statement}
 use Rattle.search.proofs.copy.Tie as tie
 
 abbrev Inv-loop : tie.InvT-loop
-Inv-loop order len out₀ i₀ out i = (i ≤ len) × (length out ≡ length out₀) × (out ≡ take i order ++ drop i out₀)
+Inv-loop order len out₀ i₀ out i = (i ≤ len) × (length out ≡ length out₀) × (out ≡ upTo i (λ (k : ℕ). getD order k 0) ++ drop i out₀)
 
 abbrev μ-loop : tie.MeasureT-loop
 μ-loop order len out₀ i₀ out i = len - i
 
 loop-holds : tie.Need-loop-holds Inv-loop μ-loop
+unfolding upTo
 loop-holds c = (omega arith, refl, refl)
 
 element-copy-out-out : tie.Need-element-copy-out-out Inv-loop μ-loop
@@ -37,7 +37,7 @@ loop-again c =
     let a = c .before .before .before .args in (
       omega arith,
       simp length-set (v .inv .1),
-      copy-more (a .order .now) (a .out .now) (v .out) (v .i) (v .inv .2) (omega arith) (omega arith),
+      fill-more (λ (k : ℕ). getD (a .order .now) k 0) (a .out .now) (v .out) (v .i) (v .inv .2) (omega arith) refl,
     )
 
 same-length : tie.Need-same-length Inv-loop μ-loop
@@ -48,7 +48,9 @@ returns c =
     let v = c .before .loop in
     let a = c .before .before .args in
     let e : v .i ≡ a .len = omega arith in
-    v .inv .2 ∙ ap (λ (n : ℕ). take n (a .order .now) ++ drop n (a .out .now)) e
+    v .inv .2
+    ∙ ap (λ (n : ℕ). upTo n (λ (k : ℕ). getD (a .order .now) k 0) ++ drop n (a .out .now)) e
+    ∙ ap (λ (l : List ℕ). l ++ drop (a .len) (a .out .now)) (sym (take-filled (a .len) (a .order .now) (omega arith)))
 
 pub copy-spec : {M : Type 1} → statement M
 copy-spec =

@@ -9,25 +9,25 @@ use borrow.Author.Needs.{needs}
 use Rattle.search.proofs.deliver.Statement.{statement}
 use Rattle.search.proofs.deliver.Tie as tie
 
-enum-known-outcome : tie.Need-enum-known-outcome
-enum-known-outcome c = search needs
+enum-known-ending : tie.Need-enum-known-ending
+enum-known-ending c = search needs
 
 copy-requires : tie.Need-copy-requires
 copy-requires c κs =
     let p = c .before .before .before .before .before .pre in
-    let q = c .before .before .outcome .given .1 in
+    let q = c .before .before .ending .given .1 in
     (p .0, subst (AtMost slots) q (p .1), subst (AtMost (length (c .before .before .before .before .before .args .out .now))) q (p .2))
 
-enum-known-outcome-2 : tie.Need-enum-known-outcome-2
-enum-known-outcome-2 c = search needs
+enum-known-ending-2 : tie.Need-enum-known-ending-2
+enum-known-ending-2 c = search needs
 
-enum-known-outcome-3 : tie.Need-enum-known-outcome-3
-enum-known-outcome-3 c = search needs
+enum-known-ending-3 : tie.Need-enum-known-ending-3
+enum-known-ending-3 c = search needs
 
 copy-requires-2 : tie.Need-copy-requires-2
 copy-requires-2 c κs =
     let p = c .before .before .before .before .before .pre in
-    let q = c .before .before .outcome3 .given .1 in
+    let q = c .before .before .ending3 .given .1 in
     (p .0, subst (AtMost slots) q (p .1), subst (AtMost (length (c .before .before .before .before .before .args .out .now))) q (p .2))
 
 same-length : tie.Need-same-length
@@ -36,7 +36,7 @@ same-length c = search needs
 returns : tie.Need-returns
 returns c =
     let p = c .before .before .before .before .before .before .before .before .pre in
-    let o = c .before .before .before .before .before .outcome .given in
+    let o = c .before .before .before .before .before .ending .given in
     rw (o .1)
     (copied (λ l. found l (o .0 .1 .0)) (o .0 .0) _ _ _ (omega (arith, p .0, subst (AtMost slots) (o .1) (p .1))) (c .before .before .copy .ensures))
 
@@ -49,7 +49,7 @@ same-length-2 c = search needs
 returns-3 : tie.Need-returns-3
 returns-3 c =
     let p = c .before .before .before .before .before .before .before .before .pre in
-    let o = c .before .before .before .before .before .outcome3 .given in
+    let o = c .before .before .before .before .before .ending3 .given in
     rw (o .1)
     (copied (λ l. spent l (o .0 .1 .0)) (o .0 .0) _ _ _ (omega (arith, p .0, subst (AtMost slots) (o .1) (p .1))) (c .before .before .copy2 .ensures))
 
@@ -57,10 +57,10 @@ pub deliver-spec : {M : Type 1} → statement M
 deliver-spec =
     tie.close
     (tie.spec
-    enum-known-outcome
+    enum-known-ending
     copy-requires
-    enum-known-outcome-2
-    enum-known-outcome-3
+    enum-known-ending-2
+    enum-known-ending-3
     copy-requires-2
     same-length
     returns

@@ -7,7 +7,6 @@ use native.Mathlib.Omega.{arith}
 use lib.Count.{ones, ones-le}
 use mathlib.Core.List.{List}
 use mathlib.Core.Bool.{true, false}
-use Rattle.witness_walk.specs.Running.{Ran}
 use Rattle.successors.specs.CleanMasks.{slots}
 use Rattle.engine.specs.State.{LoadedAs}
 use Rattle.search.proofs.CallLaws.{at-most, call-refused, call-answered, answer-is, start-refused, room-refused, allowance-refused, none-refused, mask-small, tables-of, counted, count-small, clean-by, began-clean}
@@ -37,10 +36,10 @@ cast-if1 : tie.Need-cast-if1
 cast-if1 c = omega (arith, ones-le 32 (c .before .before .before .before .before .before .before .before .before .memory-mask .result) (omega (arith, mask-small (c .before .before .before .before .before .before .before .before .before .before .before .before .before .pre) (c .before .before .before .before .before .before .before .before .before .before .predecessors .ensures) (c .before .before .before .before .before .before .before .before .before .memory-mask .ensures))))
 
 returns : tie.Need-returns
-returns c = call-refused _ _ _ _ 16 (room-refused _ _ _ _ (began-clean (c .before .before .before .before .before .before .before .before .before .before .before .before .before .before .pre) (c .before .before .before .before .before .before .before .before .before .before .before .predecessors .ensures) (c .before .before .before .before .before .before .before .before .before .before .memory-mask .ensures) _ _ _ _ _ (subst (LoadedAs _ _ (c .before .before .before .before .before .before .before .before .before .before .before .before .before .before .args .start .now) _) (c .before .before .loaded .given .1) (c .before .before .before .before .load .ensures))) (omega (arith, counted (c .before .before .before .before .before .before .before .before .before .before .before .before .before .before .pre) (c .before .before .before .before .before .before .before .before .before .before .before .predecessors .ensures) (c .before .before .before .before .before .before .before .before .before .before .memory-mask .ensures))))
+returns c = call-refused _ _ _ _ _ _ 16 (room-refused _ _ _ _ _ (began-clean (c .before .before .before .before .before .before .before .before .before .before .before .before .before .before .pre) (c .before .before .before .before .before .before .before .before .before .before .before .predecessors .ensures) (c .before .before .before .before .before .before .before .before .before .before .memory-mask .ensures) _ _ _ _ _ (subst (LoadedAs _ _ (c .before .before .before .before .before .before .before .before .before .before .before .before .before .before .args .start .now) _) (c .before .before .loaded .given .1) (c .before .before .before .before .load .ensures))) (omega (arith, counted (c .before .before .before .before .before .before .before .before .before .before .before .before .before .before .pre) (c .before .before .before .before .before .before .before .before .before .before .before .predecessors .ensures) (c .before .before .before .before .before .before .before .before .before .before .memory-mask .ensures))))
 
 returns-2 : tie.Need-returns-2
-returns-2 c = call-refused _ _ _ _ 17 (allowance-refused _ _ _ _ (began-clean (c .before .before .before .before .before .before .before .before .before .before .before .before .before .before .before .pre) (c .before .before .before .before .before .before .before .before .before .before .before .before .predecessors .ensures) (c .before .before .before .before .before .before .before .before .before .before .before .memory-mask .ensures) _ _ _ _ _ (subst (LoadedAs _ _ (c .before .before .before .before .before .before .before .before .before .before .before .before .before .before .before .args .start .now) _) (c .before .before .before .loaded .given .1) (c .before .before .before .before .before .load .ensures))) (omega (arith, counted (c .before .before .before .before .before .before .before .before .before .before .before .before .before .before .before .pre) (c .before .before .before .before .before .before .before .before .before .before .before .before .predecessors .ensures) (c .before .before .before .before .before .before .before .before .before .before .before .memory-mask .ensures))) (c .if2 .taken))
+returns-2 c = call-refused _ _ _ _ _ _ 17 (allowance-refused _ _ _ _ _ (began-clean (c .before .before .before .before .before .before .before .before .before .before .before .before .before .before .before .pre) (c .before .before .before .before .before .before .before .before .before .before .before .before .predecessors .ensures) (c .before .before .before .before .before .before .before .before .before .before .before .memory-mask .ensures) _ _ _ _ _ (subst (LoadedAs _ _ (c .before .before .before .before .before .before .before .before .before .before .before .before .before .before .before .args .start .now) _) (c .before .before .before .loaded .given .1) (c .before .before .before .before .before .load .ensures))) (omega (arith, counted (c .before .before .before .before .before .before .before .before .before .before .before .before .before .before .before .pre) (c .before .before .before .before .before .before .before .before .before .before .before .before .predecessors .ensures) (c .before .before .before .before .before .before .before .before .before .before .before .memory-mask .ensures))) (c .if2 .taken))
 
 run-requires : tie.Need-run-requires
 run-requires c κs = (tables-of (c .before .before .before .before .before .before .before .before .before .before .before .before .before .before .before .before .before .before .pre) (c .before .before .before .before .before .before .before .before .before .before .before .before .before .before .before .predecessors .ensures) (c .before .before .before .before .before .before .before .before .before .before .before .before .before .before .memory-mask .ensures) (c .before .before .before .before .before .before .before .before .before .before .before .before .successors .ensures), (subst (LoadedAs _ _ (c .before .before .before .before .before .before .before .before .before .before .before .before .before .before .before .before .before .before .args .start .now) _) (c .before .before .before .before .before .before .loaded .given .1) (c .before .before .before .before .before .before .before .before .load .ensures)) .holds)
@@ -57,7 +56,7 @@ deliver-requires c κs =
 
 returns-3 : tie.Need-returns-3
 returns-3 c =
-    call-refused _ _ _ _ 15 (start-refused _ _ _ _ (clean-by (c .before .before .before .before .before .before .before .before .before .before .before .before .pre) (c .before .before .before .before .before .before .before .before .before .predecessors .ensures) (c .before .before .before .before .before .before .before .before .memory-mask .ensures) _ false
+    call-refused _ _ _ _ _ _ 15 (start-refused _ _ _ _ _ (clean-by (c .before .before .before .before .before .before .before .before .before .before .before .before .pre) (c .before .before .before .before .before .before .before .before .before .predecessors .ensures) (c .before .before .before .before .before .before .before .before .memory-mask .ensures) _ false
     (subst (LoadedAs _ _ (c .before .before .before .before .before .before .before .before .before .before .before .before .args .start .now) _) (c .enum-told .given .1) (c .before .before .load .ensures))))
 
 same-length : tie.Need-same-length
@@ -67,10 +66,10 @@ returns-4 : tie.Need-returns-4
 returns-4 c =
     let r = c .before .before .before .before .before .run .ensures in
     let k = counted (c .before .before .before .before .before .before .before .before .before .before .before .before .before .before .before .before .before .before .before .before .before .before .before .before .pre) (c .before .before .before .before .before .before .before .before .before .before .before .before .before .before .before .before .before .before .before .before .before .predecessors .ensures) (c .before .before .before .before .before .before .before .before .before .before .before .before .before .before .before .before .before .before .before .before .memory-mask .ensures) in
-    call-answered _ _ _ _ _ _ _ _
-    (answer-is _ _ _ _ _ _
-    (none-refused _ _ _ _ (began-clean (c .before .before .before .before .before .before .before .before .before .before .before .before .before .before .before .before .before .before .before .before .before .before .before .before .pre) (c .before .before .before .before .before .before .before .before .before .before .before .before .before .before .before .before .before .before .before .before .before .predecessors .ensures) (c .before .before .before .before .before .before .before .before .before .before .before .before .before .before .before .before .before .before .before .before .memory-mask .ensures) _ _ _ _ _ (subst (LoadedAs _ _ (c .before .before .before .before .before .before .before .before .before .before .before .before .before .before .before .before .before .before .before .before .before .before .before .before .args .start .now) _) (c .before .before .before .before .before .before .before .before .before .before .before .before .loaded .given .1) (c .before .before .before .before .before .before .before .before .before .before .before .before .before .before .load .ensures))) (omega arith) (c .before .before .before .before .before .before .before .before .before .if2 .left))
-    (ran-from ((subst (LoadedAs _ _ (c .before .before .before .before .before .before .before .before .before .before .before .before .before .before .before .before .before .before .before .before .before .before .before .before .args .start .now) _) (c .before .before .before .before .before .before .before .before .before .before .before .before .loaded .given .1) (c .before .before .before .before .before .before .before .before .before .before .before .before .before .before .load .ensures)) .same) r))
+    call-answered _ _ _ _ _ _ _ _ _ _
+    (answer-is _ _ _ _ _ _ (c .before .before .before .before .before .run .result) _
+    (none-refused _ _ _ _ _ (began-clean (c .before .before .before .before .before .before .before .before .before .before .before .before .before .before .before .before .before .before .before .before .before .before .before .before .pre) (c .before .before .before .before .before .before .before .before .before .before .before .before .before .before .before .before .before .before .before .before .before .predecessors .ensures) (c .before .before .before .before .before .before .before .before .before .before .before .before .before .before .before .before .before .before .before .before .memory-mask .ensures) _ _ _ _ _ (subst (LoadedAs _ _ (c .before .before .before .before .before .before .before .before .before .before .before .before .before .before .before .before .before .before .before .before .before .before .before .before .args .start .now) _) (c .before .before .before .before .before .before .before .before .before .before .before .before .loaded .given .1) (c .before .before .before .before .before .before .before .before .before .before .before .before .before .before .load .ensures))) (omega arith) (c .before .before .before .before .before .before .before .before .before .if2 .left))
+    (ran-from _ ((subst (LoadedAs _ _ (c .before .before .before .before .before .before .before .before .before .before .before .before .before .before .before .before .before .before .before .before .before .before .before .before .args .start .now) _) (c .before .before .before .before .before .before .before .before .before .before .before .before .loaded .given .1) (c .before .before .before .before .before .before .before .before .before .before .before .before .before .before .load .ensures)) .same) r))
     (c .before .before .deliver .ensures)
 
 pub search-spec : {M : Type 1} → statement M

@@ -1,3 +1,6 @@
+use mathlib.Core.Path.{sym, ap, _∙_}
+use Rattle.search.specs.Replies.{prefixLength}
+use Rattle.search.proofs.CallLaws.{length-within}
 use native.Mathlib.Omega.{arith}
 use Rattle.console.proofs.LineLaws.{then}
 use Rattle.suite.proofs.SuiteLaws.{block-line}
@@ -36,7 +39,10 @@ slice-aggregate-replied : tie.Need-slice-aggregate-replied
 slice-aggregate-replied c = search needs
 
 replied-requires : tie.Need-replied-requires
-replied-requires c κs = search needs
+replied-requires c κs =
+    let searched = c .before .before .before .before .before .before .before .before in
+    let s = searched .search in
+    length-within (s .result) _ (s .ensures .1 .1 ∙ ap prefixLength (sym (s .ensures .0)))
 
 returns : tie.Need-returns
 returns c =

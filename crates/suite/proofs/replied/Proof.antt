@@ -1,3 +1,7 @@
+use Prim.Native.Nat.{_≤_}
+use lib.ListN.{length}
+use Rattle.search.specs.Replies.{lengthOf}
+use mathlib.Core.Path.{subst}
 use Prim.Native.Nat.{ℕ}
 use mathlib.Core.List.{_++_}
 use mathlib.Core.Path.{sym, ap, _∙_}
@@ -25,8 +29,11 @@ item-requires c κs = search needs
 enum-known-reply-2 : tie.Need-enum-known-reply-2
 enum-known-reply-2 c = search needs
 
-outcome-requires : tie.Need-outcome-requires
-outcome-requires c κs = search needs
+ended-requires : tie.Need-ended-requires
+ended-requires c κs =
+    let known = c .before in
+    let start = known .before .before .before in
+    subst (λ (x : Reply). lengthOf x ≤ length (start .args .answer .now)) (known .reply2 .given .1) (start .pre)
 
 returns : tie.Need-returns
 returns c =
@@ -40,7 +47,7 @@ returns-2 : tie.Need-returns-2
 returns-2 c =
     let known = c .before .before in
     same-text _ _ (sym (ap (λ (x : Reply). replyText (replyOf x (known .before .before .before .args .answer .now))) (known .reply2 .given .1)))
-    (c .outcome .ensures)
+    (c .ended .ensures)
 
 pub replied-spec : {M : Type 1} → statement M
 replied-spec =
@@ -51,6 +58,6 @@ replied-spec =
     number-requires
     item-requires
     enum-known-reply-2
-    outcome-requires
+    ended-requires
     returns
     returns-2)

@@ -24,7 +24,7 @@ returns-2 c =
     (whole-here _ _ _ _ (rw (c .before .line6 .ensures) at (c .if2 .taken)))
 
 refuse-records-requires : tie.Need-refuse-records-requires
-refuse-records-requires c κs = omega (arith, in-range _ (sym (c .before .before .before .line5 .ensures) ∙ c .before .before .if1 .left))
+refuse-records-requires c κs = omega (arith, in-range _ _ (sym (c .before .before .before .line5 .ensures) ∙ c .before .before .if1 .left))
 
 returns-3 : tie.Need-returns-3
 unfolding tableLines

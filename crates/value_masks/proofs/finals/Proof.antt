@@ -2,7 +2,7 @@ use Prim.Native.Nat.{_-_}
 use native.Mathlib.Omega.{arith}
 use Rattle.masks.specs.Bit.{bit}
 use Rattle.value_masks.specs.ValueMasks.{finalsOf}
-use Rattle.prepared.proofs.GatherLaws.{Gathered, gather-start, gather-more, gather-end}
+use Rattle.masks.proofs.GatherLaws.{Gathered, gather-start, gather-more, gather-end}
 use borrow.Author.Needs.{needs}
 use Rattle.value_masks.proofs.finals.Statement.{statement}
 use Rattle.value_masks.proofs.finals.Tie as tie

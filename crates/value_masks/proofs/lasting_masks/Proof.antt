@@ -6,22 +6,21 @@ use native.Mathlib.Omega.{arith}
 use lib.ListN.{getD}
 use Rattle.edition.specs.Limits.{maxLocations}
 use Rattle.model.specs.Returns.{initialValue}
-use Rattle.prepared.specs.Prepared.{padded}
 use Rattle.value_masks.specs.ValueMasks.{leaving, leavingOf, lastingOf}
 use Rattle.value_masks.proofs.ValueMaskLaws.{lasting-stated, lasting-none}
-use Rattle.prepared.proofs.FillLaws.{Filled, fill-start, fill-more, fill-skip, fill-end}
+use Rattle.lists.proofs.PaddedLaws.{Padded, pad-start, pad-more, pad-skip, pad-end}
 use borrow.Author.Needs.{needs}
 use Rattle.value_masks.proofs.lasting_masks.Statement.{statement}
 use Rattle.value_masks.proofs.lasting_masks.Tie as tie
 
 abbrev Inv-loop : tie.InvT-loop
-Inv-loop t written initial finals list₀ x₀ list x = Filled (lastingOf t) maxLocations (t .locations) x list
+Inv-loop t written initial finals list₀ x₀ list x = Padded (lastingOf t) maxLocations (t .locations) x list
 
 abbrev μ-loop : tie.MeasureT-loop
 μ-loop t written initial finals list₀ x₀ list x = t .locations - x
 
 loop-holds : tie.Need-loop-holds Inv-loop μ-loop
-loop-holds c = fill-start _ _ _
+loop-holds c = pad-start _ _ _
 
 cast-k : tie.Need-cast-k Inv-loop μ-loop
 cast-k c = search needs
@@ -69,15 +68,14 @@ loop-again c =
     let v = c .before .before .before .before .before .loop in
     let t = s .args .t in
     ⊎-elim
-    (λ a. rw (a .2) (fill-more _ _ _ _ _ _ (s .pre .1) (v .inv) (omega arith)
+    (λ a. rw (a .2) (pad-more _ _ _ _ _ _ (s .pre .1) (v .inv) (omega arith)
     (a .1 .ensures ∙ ap (λ (l : List ℕ). leaving l (t .count) (getD (t .initial) (v .x) 0) (getD (t .finals) (v .x) 0)) (s .pre .2)
     ∙ lasting-stated t (v .x) (sym (c .before .has .ensures) ∙ a .0 .taken))))
-    (λ a. rw (a .1) (fill-skip _ _ _ _ _ (v .inv) (omega arith) (lasting-none _ _ (sym (c .before .has .ensures) ∙ a .0 .left))))
+    (λ a. rw (a .1) (pad-skip _ _ _ _ _ (v .inv) (omega arith) (lasting-none _ _ (sym (c .before .has .ensures) ∙ a .0 .left))))
     (c .if2 .came)
 
 returns : tie.Need-returns Inv-loop μ-loop
-unfolding padded
-returns c = fill-end _ _ _ _ _ (c .before .before .loop .inv) (c .if1 .left)
+returns c = pad-end _ _ _ _ _ (c .before .before .loop .inv) (c .if1 .left)
 
 pub lasting-masks-spec : {M : Type 1} → statement M
 lasting-masks-spec =

@@ -5,7 +5,7 @@ use lib.Bits.{bitOr}
 use lib.ListN.{getD}
 use lib.Dec.{eqb}
 use Rattle.value_masks.specs.ValueMasks.{leaving}
-use Rattle.prepared.proofs.GatherLaws.{Gathered, gather-start, gather-more, gather-end}
+use Rattle.masks.proofs.GatherLaws.{Gathered, gather-start, gather-more, gather-end}
 use borrow.Author.Needs.{needs}
 use Rattle.value_masks.proofs.leaving.Statement.{statement}
 use Rattle.value_masks.proofs.leaving.Tie as tie

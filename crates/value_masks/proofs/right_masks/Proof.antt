@@ -5,22 +5,21 @@ use mathlib.Core.Path.{sym, ap₂, _∙_}
 use native.Mathlib.Omega.{arith}
 use Rattle.table.specs.Events.{capacity, reads, location, kind, event}
 use Rattle.model.specs.Returns.{initialValue}
-use Rattle.prepared.specs.Prepared.{padded}
 use Rattle.value_masks.specs.ValueMasks.{leaving, leavingOf, rightOf}
 use Rattle.value_masks.proofs.ValueMaskLaws.{right-reads, right-none}
-use Rattle.prepared.proofs.FillLaws.{Filled, fill-start, fill-more, fill-skip, fill-end}
+use Rattle.lists.proofs.PaddedLaws.{Padded, pad-start, pad-more, pad-skip, pad-end}
 use borrow.Author.Needs.{needs}
 use Rattle.value_masks.proofs.right_masks.Statement.{statement}
 use Rattle.value_masks.proofs.right_masks.Tie as tie
 
 abbrev Inv-loop : tie.InvT-loop
-Inv-loop written t initial list₀ r₀ list r = Filled (rightOf t) capacity (t .count) r list
+Inv-loop written t initial list₀ r₀ list r = Padded (rightOf t) capacity (t .count) r list
 
 abbrev μ-loop : tie.MeasureT-loop
 μ-loop written t initial list₀ r₀ list r = t .count - r
 
 loop-holds : tie.Need-loop-holds Inv-loop μ-loop
-loop-holds c = fill-start _ _ _
+loop-holds c = pad-start _ _ _
 
 cast-x : tie.Need-cast-x Inv-loop μ-loop
 cast-x c = search needs
@@ -62,15 +61,14 @@ loop-again c =
     let v = d .loop in
     let t = d .before .before .args .t1 in
     ⊎-elim
-    (λ a. rw (a .3) (fill-more _ _ _ _ _ _ (d .before .before .pre .0) (v .inv) (omega arith)
+    (λ a. rw (a .3) (pad-more _ _ _ _ _ _ (d .before .before .pre .0) (v .inv) (omega arith)
     (a .2 .ensures ∙ ap₂ (λ (l : List ℕ) (i : ℕ). leaving l (t .count) i (event t (v .r) .read)) (d .before .before .pre .1) (a .1 .ensures)
     ∙ right-reads t (v .r) (sym (c .before .reads .ensures) ∙ a .0 .taken))))
-    (λ a. rw (a .1) (fill-skip _ _ _ _ _ (v .inv) (omega arith) (right-none _ _ (sym (c .before .reads .ensures) ∙ a .0 .left))))
+    (λ a. rw (a .1) (pad-skip _ _ _ _ _ (v .inv) (omega arith) (right-none _ _ (sym (c .before .reads .ensures) ∙ a .0 .left))))
     (c .if1 .came)
 
 returns : tie.Need-returns Inv-loop μ-loop
-unfolding padded
-returns c = fill-end _ _ _ _ _ (c .before .loop .inv) (omega arith)
+returns c = pad-end _ _ _ _ _ (c .before .loop .inv) (omega arith)
 
 pub right-masks-spec : {M : Type 1} → statement M
 right-masks-spec =

@@ -2,20 +2,19 @@ use Prim.Native.Nat.{ℕ, _-_}
 use mathlib.Core.Path.{refl}
 use native.Mathlib.Omega.{arith}
 use Rattle.table.specs.Events.{capacity, event}
-use Rattle.prepared.specs.Prepared.{padded}
-use Rattle.prepared.proofs.FillLaws.{Filled, fill-start, fill-more, fill-end}
+use Rattle.lists.proofs.PaddedLaws.{Padded, pad-start, pad-more, pad-end}
 use borrow.Author.Needs.{needs}
 use Rattle.value_masks.proofs.written_values.Statement.{statement}
 use Rattle.value_masks.proofs.written_values.Tie as tie
 
 abbrev Inv-loop : tie.InvT-loop
-Inv-loop t list₀ e₀ list e = Filled (λ (k : ℕ). event t k .written) capacity (t .count) e list
+Inv-loop t list₀ e₀ list e = Padded (λ (k : ℕ). event t k .written) capacity (t .count) e list
 
 abbrev μ-loop : tie.MeasureT-loop
 μ-loop t list₀ e₀ list e = t .count - e
 
 loop-holds : tie.Need-loop-holds Inv-loop μ-loop
-loop-holds c = fill-start _ _ _
+loop-holds c = pad-start _ _ _
 
 cast-list : tie.Need-cast-list Inv-loop μ-loop
 cast-list c = search needs
@@ -45,11 +44,10 @@ loop-again : tie.Need-loop-again Inv-loop μ-loop
 unfolding event
 loop-again c =
     let v = c .before .loop in
-    fill-more _ _ _ _ _ _ (c .before .before .pre) (v .inv) (omega arith) refl
+    pad-more _ _ _ _ _ _ (c .before .before .pre) (v .inv) (omega arith) refl
 
 returns : tie.Need-returns Inv-loop μ-loop
-unfolding padded
-returns c = fill-end _ _ _ _ _ (c .before .loop .inv) (omega arith)
+returns c = pad-end _ _ _ _ _ (c .before .loop .inv) (omega arith)
 
 pub written-values-spec : {M : Type 1} → statement M
 written-values-spec =

@@ -3,7 +3,7 @@ use Prim.Native.Nat.{_-_}
 use native.Mathlib.Omega.{arith}
 use Rattle.masks.specs.Bit.{bit}
 use Rattle.value_masks.specs.ValueMasks.{initialSlot}
-use Rattle.values.proofs.LastLaws.{Behind, behind-start, behind-more, behind-hit, behind-end}
+use Rattle.lists.proofs.LastLaws.{Behind, behind-start, behind-more, behind-hit, behind-end}
 use Rattle.values.proofs.OrderLaws.{listed-at}
 use borrow.Author.Needs.{needs}
 use Rattle.values.proofs.last_write.Statement.{statement}

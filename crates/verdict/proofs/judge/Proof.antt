@@ -3,7 +3,7 @@ use mathlib.Core.List.{List}
 use mathlib.Core.Path.{_≡_, ap}
 use Rattle.table.specs.declared.Table.{Table}
 use Rattle.model.specs.Verdict.{Verdict, verdict}
-use Rattle.verdict.specs.Judged.{judged}
+use Rattle.lists.specs.Reply.{answered}
 use Rattle.verdict.proofs.JudgeLaws.{at-pair, at-load, at-atomicity, at-read, at-final}
 use Rattle.verdict.proofs.JudgeLaws.{past-pair, past-load, past-atomicity, past-read, past-final}
 use Rattle.verdict.proofs.JudgeLaws.{loadLine, atomicityLine, readLine, finalLine}
@@ -50,7 +50,7 @@ returns : tie.Need-returns
 returns c =
     let c1 = c .before in
     let found = c1 .before .before .before .lowest-pair .ensures in
-    ap judged (at-pair _ _ _ _ _ _ found (c1 .if1 .taken) (c .rule-set .ensures))
+    ap answered (at-pair _ _ _ _ _ _ found (c1 .if1 .taken) (c .rule-set .ensures))
 
 lowest-load-value-requires : tie.Need-lowest-load-value-requires
 lowest-load-value-requires c κs = search needs
@@ -58,7 +58,7 @@ lowest-load-value-requires c κs = search needs
 returns-2 : tie.Need-returns-2
 returns-2 c =
     let cr = c .before .before in
-    ap judged (skip-1 (cr .before) _ (at-load _ _ _ _ (cr .lowest-load-value .ensures) (c .if2 .taken)))
+    ap answered (skip-1 (cr .before) _ (at-load _ _ _ _ (cr .lowest-load-value .ensures) (c .if2 .taken)))
 
 lowest-lr-requires : tie.Need-lowest-lr-requires
 lowest-lr-requires c κs = search needs
@@ -70,7 +70,7 @@ returns-3 : tie.Need-returns-3
 returns-3 c =
     let c3 = c .before in
     let cl = c3 .before .before in
-    ap judged (skip-2 (cl .before) _ (at-atomicity _ _ _ _ _ (cl .lowest-lr .ensures) (c3 .if3 .taken) (c .atomicity-writer .ensures)))
+    ap answered (skip-2 (cl .before) _ (at-atomicity _ _ _ _ _ (cl .lowest-lr .ensures) (c3 .if3 .taken) (c .atomicity-writer .ensures)))
 
 lowest-value-read-requires : tie.Need-lowest-value-read-requires
 lowest-value-read-requires c κs = search needs
@@ -78,7 +78,7 @@ lowest-value-read-requires c κs = search needs
 returns-4 : tie.Need-returns-4
 returns-4 c =
     let cr = c .before .before in
-    ap judged (skip-3 (cr .before) _ (at-read _ _ _ _ (cr .lowest-value-read .ensures) (c .if4 .taken)))
+    ap answered (skip-3 (cr .before) _ (at-read _ _ _ _ (cr .lowest-value-read .ensures) (c .if4 .taken)))
 
 lowest-final-value-requires : tie.Need-lowest-final-value-requires
 lowest-final-value-requires c κs = search needs
@@ -86,12 +86,12 @@ lowest-final-value-requires c κs = search needs
 returns-5 : tie.Need-returns-5
 returns-5 c =
     let cx = c .before .before in
-    ap judged (skip-4 (cx .before) _ (at-final _ _ _ (cx .lowest-final-value .ensures) (c .if5 .taken)))
+    ap answered (skip-4 (cx .before) _ (at-final _ _ _ (cx .lowest-final-value .ensures) (c .if5 .taken)))
 
 returns-6 : tie.Need-returns-6
 returns-6 c =
     let cx = c .before .before in
-    ap judged (skip-4 (cx .before) _ (past-final _ _ _ (cx .lowest-final-value .ensures) (c .if5 .left)))
+    ap answered (skip-4 (cx .before) _ (past-final _ _ _ (cx .lowest-final-value .ensures) (c .if5 .left)))
 
 pub judge-spec : {M : Type 1} → statement M
 judge-spec =

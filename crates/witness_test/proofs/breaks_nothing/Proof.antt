@@ -20,7 +20,7 @@ slice-aggregate-some-broken c = sym (determined-long _ _ _ _ (c .before .before 
 
 some-broken-requires : tie.Need-some-broken-requires
 some-broken-requires c κs =
-    let s = c .before .before .before .before .before .before .before .before .pre .0 .0 in
+    let s = c .before .before .before .before .before .before .before .before .pre .0 in
     (omega (arith, s .events), determined-long _ _ _ _ (c .before .before .before .before .determine .ensures))
 
 same-length : tie.Need-same-length
@@ -30,7 +30,7 @@ returns : tie.Need-returns
 returns c =
     let s = c .before .before .before .before .before .before .before .before .before .before in
     let d = determined _ _ _ _ (c .before .before .before .before .before .before .determine .ensures) in
-    rule-broken _ _ (s .pre .0 .2) (s .pre .0 .3) (s .pre .1) (rw (c .before .some-broken .ensures, d) at (c .if1 .taken))
+    rule-broken _ _ (s .pre .2) (s .pre .3) (rw (c .before .some-broken .ensures, d) at (c .if1 .taken))
 
 slice-reshare-prefix-lowest-lr : tie.Need-slice-reshare-prefix-lowest-lr
 slice-reshare-prefix-lowest-lr c = search needs
@@ -40,7 +40,7 @@ slice-aggregate-lowest-lr c = sym (determined-long _ _ _ _ (c .before .before .b
 
 lowest-lr-requires : tie.Need-lowest-lr-requires
 lowest-lr-requires c κs =
-    let s = c .before .before .before .before .before .before .before .before .before .before .before .pre .0 .0 in
+    let s = c .before .before .before .before .before .before .before .before .before .before .before .pre .0 in
     (omega (arith, s .events), determined-long _ _ _ _ (c .before .before .before .before .before .before .before .determine .ensures))
 
 same-length-2 : tie.Need-same-length-2
@@ -50,7 +50,7 @@ returns-2 : tie.Need-returns-2
 returns-2 c =
     let s = c .before .before .before .before .before .before .before .before .before .before .before .before .before in
     let d = determined _ _ _ _ (c .before .before .before .before .before .before .before .before .before .determine .ensures) in
-    atomicity-decides _ _ (s .pre .0 .2) (s .pre .0 .3) (s .pre .1) _ (rw (c .before .before .before .before .some-broken .ensures, d) at (c .before .before .before .if1 .left))
+    atomicity-decides _ _ (s .pre .2) (s .pre .3) _ (rw (c .before .before .before .before .some-broken .ensures, d) at (c .before .before .before .if1 .left))
     (c .before .lowest-lr .ensures ∙ rw d)
 
 pub breaks-nothing-spec : {M : Type 1} → statement M

@@ -8,12 +8,12 @@ use lib.ListN.{take, set}
 use lib.Count.{ones, ones-le}
 use borrow.Author.Tests.{not-true, not-false}
 use Rattle.prefixes.specs.Answer.{found, spent}
-use Rattle.model.specs.Witness.{isOrder, witness}
+use Rattle.model.specs.Witness.{isOrder, lawful, witness}
 use Rattle.engine.specs.State.{Moved, NextIs, Holds}
 use Rattle.values.specs.QuickTest.{Listed}
 use Rattle.values.proofs.OrderLaws.{order-listed}
 use Rattle.witness_walk.specs.Running.{searchFrom}
-use Rattle.witness_walk.proofs.WitnessLaws.{value-differs, values-met, final-room}
+use Rattle.witness_walk.proofs.WitnessLaws.{value-differs, lawful-decides, final-room}
 use Rattle.witness_walk.proofs.RunLaws.{total-ones, held-clean, held-long, held-short, run-none, run-spent, run-found, run-on, whole-is-order, part-is-none, ran-as}
 use borrow.Author.Needs.{needs}
 use Rattle.witness_walk.proofs.walk.Statement.{statement}
@@ -22,7 +22,7 @@ use Rattle.witness_walk.proofs.walk.Tie as tie
 abbrev Inv-loop : tie.InvT-loop
 Inv-loop t pred succ mem readers rivals own right finals writers lasting order₀ start budget total len₀ masks₀ visited₀ order len masks visited =
     (visited ≤ budget) × Holds pred mem order len (masks .placed) (masks .can)
-    × (searchFrom t (take len₀ order₀) budget 0 ≡ searchFrom t (take len order) (budget - visited) visited)
+    × (searchFrom t (witness t) (take len₀ order₀) budget 0 ≡ searchFrom t (witness t) (take len order) (budget - visited) visited)
 
 abbrev μ-loop : tie.MeasureT-loop
 μ-loop t pred succ mem readers rivals own right finals writers lasting order₀ start budget total len₀ masks₀ visited₀ order len masks visited =
@@ -54,7 +54,7 @@ onward : (c : tie.Else1 Inv-loop μ-loop) →
     let o = set (v .order) (g .0) (g .1 .0) in
     witness (a .t) (take (g .0 + 1) o) ≡ false →
     (v .visited + 1 ≤ a .budget) × Holds (a .pred .now) (a .mem) o (g .0 + 1) (g .1 .1 .0 .placed) (g .1 .1 .0 .can)
-    × (searchFrom (a .t) (take (a .start) (a .order .now)) (a .budget) 0 ≡ searchFrom (a .t) (take (g .0 + 1) o) (a .budget - (v .visited + 1)) (v .visited + 1))
+    × (searchFrom (a .t) (witness (a .t)) (take (a .start) (a .order .now)) (a .budget) 0 ≡ searchFrom (a .t) (witness (a .t)) (take (g .0 + 1) o) (a .budget - (v .visited + 1)) (v .visited + 1))
 onward c w =
     let v = c .before .before .before .before .before .before .loop in
     let s = c .before .before .before .before .before .before .before in
@@ -63,8 +63,8 @@ onward c w =
     let m = moved (c .before .before) in (
       omega arith,
       m .holds,
-      v .inv .2 ∙ run-on (s .pre .0 .0) (v .inv .1) m _ _ (s .args .budget - (v .visited + 1)) (budget-left c) w
-          ∙ ap (searchFrom (s .args .t) (take (g .0 + 1) o) (s .args .budget - (v .visited + 1))) (sym (add-one (v .visited))),
+      v .inv .2 ∙ run-on (s .pre .0 .0) (v .inv .1) m (witness (s .args .t)) _ _ (s .args .budget - (v .visited + 1)) (budget-left c) w
+          ∙ ap (searchFrom (s .args .t) (witness (s .args .t)) (take (g .0 + 1) o) (s .args .budget - (v .visited + 1))) (sym (add-one (v .visited))),
     )
 
 -- the prefix visited has all memory events: it is an order
@@ -94,7 +94,7 @@ cast-total : tie.Need-cast-total Inv-loop μ-loop
 cast-total c = omega (arith, ones-le 32 (c .args .mem) (omega arith))
 
 loop-holds : tie.Need-loop-holds Inv-loop μ-loop
-loop-holds c = (omega arith, c .pre .0 .1, ap (λ (b : ℕ). searchFrom (c .args .t) (take (c .args .start) (c .args .order .now)) b 0) (sym (sub-zero (c .args .budget))))
+loop-holds c = (omega arith, c .pre .0 .1, ap (λ (b : ℕ). searchFrom (c .args .t) (witness (c .args .t)) (take (c .args .start) (c .args .order .now)) b 0) (sym (sub-zero (c .args .budget))))
 
 next-requires : tie.Need-next-requires Inv-loop μ-loop
 next-requires c κs = search needs
@@ -107,7 +107,7 @@ returns c =
     let v = c .before .before .before .before .loop in
     let a = c .before .before .before .before .before .args in
     record {
-      answer = sym (v .inv .2 ∙ run-none (c .before .before .before .before .before .pre .0 .0) (v .inv .1) _ _
+      answer = sym (v .inv .2 ∙ run-none (c .before .before .before .before .before .pre .0 .0) (v .inv .1) (witness (a .t)) _ _
           (subst (NextIs (a .pred .now) (a .mem) (v .order) (v .len)) (c .enum-told .given .1) (c .before .before .next .ensures)));
       long = v .inv .1 .long;
       short = tt;
@@ -124,7 +124,7 @@ returns-2 c =
     let v = c .before .before .before .before .before .before .before .loop in
     let s = c .before .before .before .before .before .before .before .before in
     ran-as (c .spent .ensures) record {
-      answer = sym (v .inv .2 ∙ run-spent (s .pre .0 .0) (v .inv .1) (moved (c .before .before .before)) _ _ (omega arith)
+      answer = sym (v .inv .2 ∙ run-spent (s .pre .0 .0) (v .inv .1) (moved (c .before .before .before)) (witness (s .args .t)) _ _ (omega arith)
           ∙ ap (λ (n : ℕ). spent (take n (v .order)) (v .visited)) (v .inv .1 .counted));
       long = v .inv .1 .long;
       short = held-short (s .pre .0 .0) (v .inv .1);
@@ -165,17 +165,26 @@ loop-again-2 c =
     let s = e .before .before .before .before .before .before .before in
     onward e (value-differs (s .pre .0 .0 .small) (s .pre .1) _ (whole e (c .before .before .before .if2 .left)) (not-true _ (rw (c .before .agree .ensures) at (c .if3 .taken))))
 
-is-witness-requires : tie.Need-is-witness-requires Inv-loop μ-loop
-is-witness-requires c κs =
+-- its values agree: it is a witness if it is lawful
+decided : (c : tie.Else3 Inv-loop μ-loop) →
+    let e = c .before .before .before .before in
+    let v = e .before .before .before .before .before .before .loop in
+    let a = e .before .before .before .before .before .before .before .args in
+    let g = e .before .before .step .given .0 in
+    let o = take (g .0 + 1) (set (v .order) (g .0) (g .1 .0)) in
+    witness (a .t) o ≡ lawful (a .t) o
+decided c =
+    let e = c .before .before .before .before in
+    let s = e .before .before .before .before .before .before .before in
+    lawful-decides (s .pre .0 .0 .small) (s .pre .1) _ (whole e (c .before .before .before .if2 .left)) (not-false _ (rw (c .before .agree .ensures) at (c .if3 .left)))
+
+is-lawful-requires : tie.Need-is-lawful-requires Inv-loop μ-loop
+is-lawful-requires c κs =
     let e = c .before .before .before .before .before in
     let s = e .before .before .before .before .before .before .before in
-    let m = moved (e .before .before) in
-    let order = whole e (c .before .before .before .before .if2 .left) in (
+    let m = moved (e .before .before) in (
       (s .pre .0 .0 .small, m .holds .long, omega (arith, m .room)),
-      (
-        (order, held-clean (s .pre .0 .0) (m .holds)),
-        values-met (s .pre .0 .0 .small) (s .pre .1) _ order (not-false _ (rw (c .before .before .agree .ensures) at (c .before .if3 .left))),
-      ),
+      (whole e (c .before .before .before .before .if2 .left), held-clean (s .pre .0 .0) (m .holds)),
     )
 
 found-requires : tie.Need-found-requires Inv-loop μ-loop
@@ -190,7 +199,7 @@ returns-3 c =
     let o = set (v .order) (g .0) (g .1 .0) in
     let m = moved (e .before .before) in
     ran-as (c .found .ensures) record {
-      answer = sym (v .inv .2 ∙ run-found (s .pre .0 .0) (v .inv .1) m _ _ (s .args .budget - (v .visited + 1)) (budget-left e) (sym (c .before .before .is-witness .ensures) ∙ c .before .if4 .taken)
+      answer = sym (v .inv .2 ∙ run-found (s .pre .0 .0) (v .inv .1) m (witness (s .args .t)) _ _ (s .args .budget - (v .visited + 1)) (budget-left e) (decided (c .before .before .before .before) ∙ sym (c .before .before .is-lawful .ensures) ∙ c .before .if4 .taken)
           ∙ ap (λ (n : ℕ). found (take n o) (suc (v .visited))) (m .holds .counted)
           ∙ ap (found (take (ones (g .1 .1 .0 .placed)) o)) (sym (add-one (v .visited))));
       long = m .holds .long;
@@ -201,7 +210,7 @@ loop-less-3 : tie.Need-loop-less-3 Inv-loop μ-loop
 loop-less-3 c = search needs
 
 loop-again-3 : tie.Need-loop-again-3 Inv-loop μ-loop
-loop-again-3 c = onward (c .before .before .before .before .before .before .before) (sym (c .before .is-witness .ensures) ∙ c .if4 .left)
+loop-again-3 c = onward (c .before .before .before .before .before .before .before) (decided (c .before .before .before) ∙ sym (c .before .is-lawful .ensures) ∙ c .if4 .left)
 
 pub walk-spec : {M : Type 1} → statement M
 walk-spec =
@@ -225,7 +234,7 @@ walk-spec =
     agree-requires
     loop-less-2
     loop-again-2
-    is-witness-requires
+    is-lawful-requires
     found-requires
     returns-3
     loop-less-3

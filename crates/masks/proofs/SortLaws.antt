@@ -13,9 +13,9 @@ use Rattle.lists.specs.Lists.{keep}
 use Rattle.lists.specs.Filled.{upTo}
 use Rattle.lists.proofs.BoolLaws.{and-l, and-r}
 use Rattle.lists.proofs.FilledLaws.{getD-upTo}
+use Rattle.lists.proofs.PaddedLaws.{zeros-same, upTo-as, upTo-set}
 use Rattle.masks.specs.MaskOf.{maskOf}
-use Rattle.prepared.proofs.GatherLaws.{mask-with, mask-without}
-use Rattle.prepared.proofs.FillLaws.{zeros-same, upTo-as, upTo-set}
+use Rattle.masks.proofs.GatherLaws.{mask-with, mask-without}
 
 module _ (p : ℕ → Bool) (g : ℕ → ℕ) (n m : ℕ) where
   -- number w goes to mask x

@@ -1,12 +1,13 @@
--- Laws of the last entry of a list that passes a test, and for a loop that tests the entries from the end of an array.
-use Prim.Native.Nat.{ℕ, suc, _-_, _≤_, _<_}
+-- Laws of the last entry of a list that passes a test, and for loops that look for it: along a list, and from the end of an array.
+use Prim.Native.Nat.{ℕ, suc, _+_, _-_, _≤_, _<_}
 use mathlib.Core.Path.{_≡_, refl, sym, ap, _∙_}
 use mathlib.Core.Bool.{Bool, true, false, cond, and-eq-true-iff}
 use mathlib.Core.List.{List, [], _∷_, _++_}
+use native.Mathlib.Numerals.{add-one}
 use native.Mathlib.Omega.{arith}
-use lib.ListN.{length, getD, take}
-use lib.Seq.{take-suc}
+use lib.ListN.{length, getD, take, drop, drop-of-length-le}
+use lib.Seq.{take-suc, drop-cons}
 use Rattle.lists.specs.Lists.{all, lastOr}
 
 -- of a list with one entry more that entry is the last, if it passes
 last-append : (p : ℕ → Bool) (d x : ℕ) (l : List ℕ) → lastOr p d (l ++ (x ∷ [])) ≡ cond (p x) x (lastOr p d l)
@@ -42,6 +43,28 @@ last-map q h p d (x ∷ l) a e = ap (λ (k : ℕ). lastOr p k l) first ∙ last-
 
     first : cond (p x) x (h d) ≡ h (cond (p x) x d)
     first = elim (p x) as (λ b. cond b x (h d) ≡ h (cond b x d)) [ true ↦ sym (e x (t .0)) | false ↦ refl ]
+
+-- the last of the whole list that passes (else d) is the last from i on, else the last so far, x
+abbrev pub LastSoFar : (ℕ → Bool) → ℕ → List ℕ → ℕ → ℕ → Type 0
+LastSoFar f d l x i = (i ≤ length l) × (lastOr f d l ≡ lastOr f x (drop i l))
+
+last-next : (f : ℕ → Bool) (d : ℕ) (l : List ℕ) (i : ℕ) → i < length l
+    → lastOr f d (drop i l) ≡ lastOr f (cond (f (getD l i 0)) (getD l i 0) d) (drop (i + 1) l)
+last-next f d l i k = rw (add-one i, drop-cons l i 0 k)
+
+-- the entry at i passes: it is the last so far
+pub last-hit : (f : ℕ → Bool) (d : ℕ) (l : List ℕ) (i : ℕ) {s : Bool} → i < length l → s ≡ f (getD l i 0) → s ≡ true
+    → lastOr f d (drop i l) ≡ lastOr f (getD l i 0) (drop (i + 1) l)
+last-hit f d l i k e h = last-next f d l i k ∙ ap (λ (s : Bool). lastOr f (cond s (getD l i 0) d) (drop (i + 1) l)) (sym e ∙ h)
+
+-- it doesn't: the last so far stays
+pub last-skip : (f : ℕ → Bool) (d : ℕ) (l : List ℕ) (i : ℕ) {s : Bool} → i < length l → s ≡ f (getD l i 0) → s ≡ false
+    → lastOr f d (drop i l) ≡ lastOr f d (drop (i + 1) l)
+last-skip f d l i k e h = last-next f d l i k ∙ ap (λ (s : Bool). lastOr f (cond s (getD l i 0) d) (drop (i + 1) l)) (sym e ∙ h)
+
+-- the list has ended
+pub last-end : (f : ℕ → Bool) (d : ℕ) (l : List ℕ) (i : ℕ) → length l ≤ i → lastOr f d (drop i l) ≡ d
+last-end f d l i h = ap (lastOr f d) (drop-of-length-le l h)
 
 module _ (p : ℕ → Bool) (d : ℕ) (xs : List ℕ) (n : ℕ) where
   -- of the first n entries those from i on don't pass

@@ -2,8 +2,8 @@ use mathlib.Core.Path.{sym}
 use native.Mathlib.Omega.{arith}
 use lib.Seq.{length-take-le}
 use borrow.Author.Needs.{needs}
-use Rattle.witness_test.proofs.is_witness.Statement.{statement}
-use Rattle.witness_test.proofs.is_witness.Tie as tie
+use Rattle.witness_test.proofs.is_lawful.Statement.{statement}
+use Rattle.witness_test.proofs.is_lawful.Tie as tie
 
 slice-aggregate-breaks-nothing : tie.Need-slice-aggregate-breaks-nothing
 slice-aggregate-breaks-nothing c =
@@ -19,8 +19,8 @@ breaks-nothing-requires c κs = search needs
 returns : tie.Need-returns
 returns c = search needs
 
-pub is-witness-spec : {M : Type 1} → statement M
-is-witness-spec =
+pub is-lawful-spec : {M : Type 1} → statement M
+is-lawful-spec =
     tie.close
     (tie.spec
     slice-aggregate-breaks-nothing

@@ -1,8 +1,7 @@
 -- Laws of the mask of the numbers below n that pass a test, and for a loop that gathers it.
-use Prim.Native.Nat.{ℕ, zero, suc, _+_, _^_, _≤_, _<_}
-use mathlib.Core.Path.{_≡_, refl, sym, ap, ap₂, _∙_}
+use Prim.Native.Nat.{ℕ, _+_, _^_, _≤_, _<_}
+use mathlib.Core.Path.{_≡_, refl, sym, ap, ap₂, subst, _∙_}
 use mathlib.Core.Bool.{Bool, true, false, cond, _&&_, _||_, and-true, and-false, or-false}
-use mathlib.Core.List.{List, [], _∷_}
 use native.Mathlib.Omega.{arith}
 use lib.Dec.{eqb, ltb}
 use lib.Bits.{bitOr, or-zero-r}
@@ -10,11 +9,11 @@ use borrow.Author.Tests.{ltb-true, lt-ltb, le-ltb, eqb-true, eqb-false}
 use Rattle.lists.specs.Below.{upFrom, below}
 use Rattle.lists.specs.Lists.{keep}
 use Rattle.lists.proofs.BoolLaws.{bool-ext}
 use Rattle.masks.specs.Bit.{bit}
 use Rattle.masks.specs.MaskOf.{maskOf}
 use Rattle.masks.proofs.BitLaws.{bit-or, bit-zero, bit-pow}
 use Rattle.masks.proofs.PowerLaws.{bits-same}
-use Rattle.masks.proofs.MaskOfLaws.{mask-below, mask-below-lt}
+use Rattle.masks.proofs.MaskOfLaws.{mask-below}
 
 -- one bit, if it passes
 pub bit-if : (b : Bool) (k j : ℕ) → bit (cond b (2 ^ k) 0) j ≡ (b && eqb k j)
@@ -55,6 +54,11 @@ gather-more f n k m v s l q = (
       ∙ sym (one-more f k j) ∙ sym (mask-below f (k + 1) j)),
 )
 
+-- it doesn't pass
+pub gather-skip : (f : ℕ → Bool) (n k m : ℕ) → Gathered f n k m → k < n → f k ≡ false → Gathered f n (k + 1) m
+gather-skip f n k m s l h =
+    subst (Gathered f n (k + 1)) (or-zero-r m) (gather-more f n k m 0 s l (sym (ap (λ (b : Bool). cond b (2 ^ k) 0) h)))
+
 -- all are tested
 pub gather-end : (f : ℕ → Bool) (n k m : ℕ) → Gathered f n k m → n ≤ k → m ≡ maskOf (keep f (below n))
 gather-end f n k m s l = let e : k ≡ n = omega arith in s .1 ∙ ap (λ (j : ℕ). maskOf (keep f (below j))) e
@@ -73,7 +77,4 @@ mask-with f k h =
 
 -- it doesn't: nothing changes
 pub mask-without : (f : ℕ → Bool) (k : ℕ) → f k ≡ false → maskOf (keep f (below k)) ≡ maskOf (keep f (below (k + 1)))
-mask-without f k h =
-    sym (or-zero-r (maskOf (keep f (below k))))
-    ∙ gather-more f (k + 1) k (maskOf (keep f (below k))) 0 (omega arith, refl) (omega arith)
-    (sym (ap (λ (b : Bool). cond b (2 ^ k) 0) h)) .1
+mask-without f k h = gather-skip f (k + 1) k (maskOf (keep f (below k))) (omega arith, refl) (omega arith) h .1

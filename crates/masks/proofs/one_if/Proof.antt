@@ -1,6 +1,6 @@
 use borrow.Author.Needs.{needs}
-use Rattle.prepared.proofs.one_if.Statement.{statement}
-use Rattle.prepared.proofs.one_if.Tie as tie
+use Rattle.masks.proofs.one_if.Statement.{statement}
+use Rattle.masks.proofs.one_if.Tie as tie
 
 one-requires : tie.Need-one-requires
 one-requires c κs = search needs

@@ -8,9 +8,9 @@ use lib.Dec.{ltb, eqb}
 use lib.ListN.{length, getD, set, replicate, length-set, length-replicate, getD-replicate}
 use lib.Seq.{getD-set-same, getD-set-other}
 use borrow.Author.Tests.{ltb-true, lt-ltb, le-ltb, eqb-true, eqb-false}
-use Rattle.lists.specs.Filled.{upTo}
+use Rattle.lists.specs.Filled.{upTo, padded}
 use Rattle.lists.proofs.BoolLaws.{bool-ext}
 use Rattle.lists.proofs.FilledLaws.{length-upTo, getD-upTo, upTo-same}
 
 -- an array of zeros is made from any function that is 0
 pub zeros-same : (m : ℕ) (f : ℕ → ℕ) → ((k : ℕ) → k < m → f k ≡ 0) → replicate m 0 ≡ upTo m f
@@ -41,8 +41,8 @@ module _ (f : ℕ → ℕ) (m n : ℕ) where
   entryAt k j = cond (ltb j k) (f j) 0
 
   -- of the n entries to fill the first k are
-  abbrev pub Filled : ℕ → List ℕ → Type 0
-  Filled k l = (k ≤ n) × (l ≡ upTo m (entryAt k))
+  abbrev pub Padded : ℕ → List ℕ → Type 0
+  Padded k l = (k ≤ n) × (l ≡ upTo m (entryAt k))
 
   -- but for entry k one more filled makes no difference
   other : (k j : ℕ) → eqb k j ≡ false → entryAt k j ≡ entryAt (k + 1) j
@@ -53,12 +53,12 @@ module _ (f : ℕ → ℕ) (m n : ℕ) where
       (λ h. lt-ltb j k (omega (arith, ltb-true j (k + 1) h, eqb-false k j e))))
 
   -- nothing is filled yet
-  pub fill-start : Filled 0 (replicate m 0)
-  fill-start = (omega arith, zeros-same m (entryAt 0) (λ j i. ap (λ (b : Bool). cond b (f j) 0) (le-ltb j 0 (omega arith))))
+  pub pad-start : Padded 0 (replicate m 0)
+  pad-start = (omega arith, zeros-same m (entryAt 0) (λ j i. ap (λ (b : Bool). cond b (f j) 0) (le-ltb j 0 (omega arith))))
 
   -- one more entry is
-  pub fill-more : (k : ℕ) (l : List ℕ) (v : ℕ) → n ≤ m → Filled k l → k < n → v ≡ f k → Filled (k + 1) (set l k v)
-  fill-more k l v room s h e = (
+  pub pad-more : (k : ℕ) (l : List ℕ) (v : ℕ) → n ≤ m → Padded k l → k < n → v ≡ f k → Padded (k + 1) (set l k v)
+  pad-more k l v room s h e = (
     omega arith,
     upTo-set m (entryAt k) (entryAt (k + 1)) l k v (s .1) (omega arith)
         (e ∙ sym (ap (λ (b : Bool). cond b (f k) 0) (lt-ltb k (k + 1) (omega arith))))
@@ -66,8 +66,8 @@ module _ (f : ℕ → ℕ) (m n : ℕ) where
   )
 
   -- one more is, that is 0
-  pub fill-skip : (k : ℕ) (l : List ℕ) → Filled k l → k < n → f k ≡ 0 → Filled (k + 1) l
-  fill-skip k l s h e = (omega arith, upTo-as m (entryAt k) (entryAt (k + 1)) l (s .1) (λ j i. go j (eqb k j) refl))
+  pub pad-skip : (k : ℕ) (l : List ℕ) → Padded k l → k < n → f k ≡ 0 → Padded (k + 1) l
+  pad-skip k l s h e = (omega arith, upTo-as m (entryAt k) (entryAt (k + 1)) l (s .1) (λ j i. go j (eqb k j) refl))
     where
       go : (j : ℕ) (b : Bool) → eqb k j ≡ b → entryAt k j ≡ entryAt (k + 1) j
       go j true z =
@@ -80,5 +80,11 @@ module _ (f : ℕ → ℕ) (m n : ℕ) where
       go j false z = other k j z
 
   -- all are
-  pub fill-end : (k : ℕ) (l : List ℕ) → Filled k l → n ≤ k → l ≡ upTo m (entryAt n)
-  fill-end k l s h = let e : k ≡ n = omega arith in s .1 ∙ ap (λ (j : ℕ). upTo m (entryAt j)) e
+  pub pad-end : (k : ℕ) (l : List ℕ) → Padded k l → n ≤ k → l ≡ padded m n f
+  unfolding padded
+  pad-end k l s h = let e : k ≡ n = omega arith in s .1 ∙ ap (λ (j : ℕ). upTo m (entryAt j)) e
+
+  -- what stands there
+  pub padded-at : (k : ℕ) → n ≤ m → k < n → getD (padded m n f) k 0 ≡ f k
+  unfolding padded
+  padded-at k h l = getD-upTo m (entryAt n) k 0 (omega arith) ∙ ap (λ (b : Bool). cond b (f k) 0) (lt-ltb k n l)

@@ -1,0 +1,47 @@
+-- What a table has that none of lines 5 to 11 refuses.
+use Prim.Native.Nat.{ℕ}
+use mathlib.Core.Path.{_≡_}
+use mathlib.Core.Bool.{Bool, true, false, _||_}
+use mathlib.Core.List.{[], _∷_}
+use borrow.Author.Tests.{not-false}
+use Rattle.lists.specs.Below.{some}
+use Rattle.lists.proofs.BoolLaws.{or-off}
+use Rattle.table.specs.declared.Table.{Table}
+use Rattle.table.specs.Events.{memory}
+use Rattle.refusals.specs.Lines.{accepted, firstLine}
+use Rattle.refusals.specs.TableLines.{line5, line6, line7, line8, line9, line10, line11, recordLines, tableLines}
+use Rattle.refusals.proofs.LineLaws.{whole-off, record-off}
+use Rattle.refusals.proofs.InRange.{InRange, in-range}
+
+-- line by line
+pub record TablePassed (most : ℕ) (extra : Bool) (t : Table) : Type 0 where
+  pub counts : InRange most t
+  pub bytes : extra ≡ false
+  pub unused : line6 t ≡ false
+  pub fields : some (t .count) (line7 t) ≡ false
+  pub annotations : some (t .count) (line8 t) ≡ false
+  pub dependencies : some (t .count) (line9 t) ≡ false
+  pub pairs : some (t .count) (line10 t) ≡ false
+  pub memory : some (t .count) (memory t) ≡ true
+
+pub table-passed : (most : ℕ) (extra : Bool) (t : Table) → firstLine (t .count) (tableLines most extra t) ≡ accepted → TablePassed most extra t
+unfolding tableLines recordLines line11
+table-passed most extra t h =
+    let past5 = whole-off (t .count) 5 (line5 most t) _ h in
+    let past6 = whole-off (t .count) 6 (extra || line6 t) _ (past5 .1) in
+    let past7 = record-off (t .count) 7 (line7 t) _ (past6 .1) in
+    let past8 = record-off (t .count) 8 (line8 t) _ (past7 .1) in
+    let past9 = record-off (t .count) 9 (line9 t) _ (past8 .1) in
+    let past10 = record-off (t .count) 10 (line10 t) _ (past9 .1) in
+    let past11 = whole-off (t .count) 11 (line11 t) [] (past10 .1) in
+    let six = or-off extra (line6 t) (past6 .0) in
+    record {
+      counts = in-range most t (past5 .0);
+      bytes = six .0;
+      unused = six .1;
+      fields = past7 .0;
+      annotations = past8 .0;
+      dependencies = past9 .0;
+      pairs = past10 .0;
+      memory = not-false _ (past11 .0);
+    }
