@@ -37,18 +37,18 @@ fn intrudes(t: Table, rf: &[u8], gmo: &[u8], l: EventNo, s: EventNo, w: EventNo)
 }
 
 // The lowest such write; the number of events if there is none.
-fn lowest_intruder(t: Table, rf: &[u8], gmo: &[u8], l: EventNo, s: EventNo) -> u8
+fn lowest_intruder(t: Table, rf: &[u8], gmo: &[u8], l: EventNo, s: EventNo) -> EventNo
     requires { ⌜ (l .0 < t .count) × (t .count ≤ capacity) × (length (now rf) ≡ t .count) ⌝ }
-    ensures { λ r. ⌜ r ≡ lowest (t .count) (intrudes t (now (rf .entry)) (now (gmo .entry)) (l .0) (s .0)) ⌝ }
+    ensures { λ r. ⌜ r .0 ≡ lowest (t .count) (intrudes t (now (rf .entry)) (now (gmo .entry)) (l .0) (s .0)) ⌝ }
 {
     let mut w: u8 = 0;
     while w < t.count {
         if intrudes(t, rf, gmo, l, s, EventNo(w)) {
-            return w;
+            return EventNo(w);
         }
         w += 1;
     }
-    t.count
+    EventNo(t.count)
 }
 
 // Atomicity breaks for l and s.
@@ -57,32 +57,32 @@ fn breaks_pair(t: Table, rf: &[u8], gmo: &[u8], l: EventNo, s: EventNo) -> bool
     ensures { λ r. ⌜ r ≡ breaksPair t (now (rf .entry)) (now (gmo .entry)) (l .0) (s .0) ⌝ }
 {
     if table::paired(t, l, s) {
-        write_is_late(rf, gmo, l, s) | (lowest_intruder(t, rf, gmo, l, s) < t.count)
+        write_is_late(rf, gmo, l, s) | (lowest_intruder(t, rf, gmo, l, s).0 < t.count)
     } else {
         false
     }
 }
 
 // The lowest SC for which it breaks at l; the number of events if there is none.
-fn lowest_sc(t: Table, rf: &[u8], gmo: &[u8], l: EventNo) -> u8
+fn lowest_sc(t: Table, rf: &[u8], gmo: &[u8], l: EventNo) -> EventNo
     requires { ⌜ (l .0 < t .count) × (t .count ≤ capacity) × (length (now rf) ≡ t .count) ⌝ }
-    ensures { λ r. ⌜ r ≡ lowest (t .count) (breaksPair t (now (rf .entry)) (now (gmo .entry)) (l .0)) ⌝ }
+    ensures { λ r. ⌜ r .0 ≡ lowest (t .count) (breaksPair t (now (rf .entry)) (now (gmo .entry)) (l .0)) ⌝ }
 {
     let mut s: u8 = 0;
     while s < t.count {
         if breaks_pair(t, rf, gmo, l, EventNo(s)) {
-            return s;
+            return EventNo(s);
         }
         s += 1;
     }
-    t.count
+    EventNo(t.count)
 }
 
 // The lowest LR at which atomicity breaks; the number of events if there is none. Of other events no call, which would copy
 // the table.
-pub fn lowest_lr(t: Table, rf: &[u8], gmo: &[u8]) -> u8
+pub fn lowest_lr(t: Table, rf: &[u8], gmo: &[u8]) -> EventNo
     requires { ⌜ (t .count ≤ capacity) × (length (now rf) ≡ t .count) ⌝ }
-    ensures { λ r. ⌜ r ≡ lowest (t .count) (breaksAtomicity t (now (rf .entry)) (now (gmo .entry))) ⌝ }
+    ensures { λ r. ⌜ r .0 ≡ lowest (t .count) (breaksAtomicity t (now (rf .entry)) (now (gmo .entry))) ⌝ }
 {
     let mut l: u8 = 0;
     while l < t.count {
@@ -90,22 +90,22 @@ pub fn lowest_lr(t: Table, rf: &[u8], gmo: &[u8]) -> u8
             l += 1;
             continue;
         }
-        if lowest_sc(t, rf, gmo, EventNo(l)) < t.count {
-            return l;
+        if lowest_sc(t, rf, gmo, EventNo(l)).0 < t.count {
+            return EventNo(l);
         }
         l += 1;
     }
-    t.count
+    EventNo(t.count)
 }
 
 // The writer named: "the lowest foreign writer between; if the write itself fails to precede, that write"
-pub fn atomicity_writer(t: Table, rf: &[u8], gmo: &[u8], l: EventNo) -> u8
+pub fn atomicity_writer(t: Table, rf: &[u8], gmo: &[u8], l: EventNo) -> EventNo
     requires { ⌜ (l .0 < t .count) × (t .count ≤ capacity) × (length (now rf) ≡ t .count) ⌝ }
-    ensures { λ w. ⌜ w ≡ atomicityWriter t (now (rf .entry)) (now (gmo .entry)) (l .0) ⌝ }
+    ensures { λ w. ⌜ w .0 ≡ atomicityWriter t (now (rf .entry)) (now (gmo .entry)) (l .0) ⌝ }
 {
-    let s = EventNo(lowest_sc(t, rf, gmo, l));
+    let s = lowest_sc(t, rf, gmo, l);
     if write_is_late(rf, gmo, l, s) {
-        returned_from(rf, l)
+        EventNo(returned_from(rf, l))
     } else {
         lowest_intruder(t, rf, gmo, l, s)
     }

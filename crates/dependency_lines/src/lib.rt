@@ -13,11 +13,12 @@ ghost use Rattle.table.specs.Events.{capacity, writingKind, paired, sameLocatio
 ghost use Rattle.refusals.specs.TableLines.{namesWrongly, dataOfNonWriter, lacksControl, line9, pairedHere, line10};
 
 // One of the event's three masks names event m.
-fn names(e: Event, m: u8) -> bool
-    requires { ⌜ m < capacity ⌝ }
-    ensures { λ r. ⌜ r ≡ (bit (e .addr) m || bit (e .«data») m || bit (e .ctrl) m) ⌝ }
+fn names(e: Event, m: EventNo) -> bool
+    requires { ⌜ m .0 < capacity ⌝ }
+    ensures { λ r. ⌜ r ≡ (bit (e .addr) (m .0) || bit (e .«data») (m .0) || bit (e .ctrl) (m .0)) ⌝ }
 {
-    masks::has(e.addr, m as u32) | masks::has(e.data, m as u32) | masks::has(e.ctrl, m as u32)
+    let k = m.0 as u32;
+    masks::has(e.addr, k) | masks::has(e.data, k) | masks::has(e.ctrl, k)
 }
 
 fn some_names_wrongly(t: Table, k: EventNo) -> bool
@@ -28,7 +29,7 @@ fn some_names_wrongly(t: Table, k: EventNo) -> bool
     let mut m: u8 = 0;
     while (m as usize) < table::CAPACITY {
         let z = t.events[m as usize];
-        if names(e, m)
+        if names(e, EventNo(m))
             & (!table::program_order(EventNo(m), z, k, e)
                 | (z.kind == Kind::STORE)
                 | table::fences(z))

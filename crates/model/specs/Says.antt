@@ -1,5 +1,5 @@
--- What a verdict says of a candidate (rf, gmo), whatever way it was found: "the first thing that breaks" is broken, all that
--- stands before it in the verdict order holds, and it is the lowest.
+-- What a verdict says of a candidate (rf, gmo), whatever way it was found: what it names is broken, all that stands before it in
+-- the verdict order holds, and it is the lowest.
 use Prim.Native.Nat.{ℕ, _<_}
 use mathlib.Core.Path.{_≡_}
 use mathlib.Core.Bool.{true, false}

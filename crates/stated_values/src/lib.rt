@@ -27,18 +27,18 @@ fn breaks_load_value(t: Table, rf: &[u8], gmo: &[u8], r: EventNo) -> bool
 }
 
 // The lowest such reader; the number of events if there is none.
-pub fn lowest_load_value(t: Table, rf: &[u8], gmo: &[u8]) -> u8
+pub fn lowest_load_value(t: Table, rf: &[u8], gmo: &[u8]) -> EventNo
     requires { ⌜ (t .count ≤ capacity) × (length (now rf) ≡ t .count) ⌝ }
-    ensures { λ r. ⌜ r ≡ lowest (t .count) (breaksLoadValue t (now (rf .entry)) (now (gmo .entry))) ⌝ }
+    ensures { λ r. ⌜ r .0 ≡ lowest (t .count) (breaksLoadValue t (now (rf .entry)) (now (gmo .entry))) ⌝ }
 {
     let mut r: u8 = 0;
     while r < t.count {
         if breaks_load_value(t, rf, gmo, EventNo(r)) {
-            return r;
+            return EventNo(r);
         }
         r += 1;
     }
-    t.count
+    EventNo(t.count)
 }
 
 // Reader r doesn't return its stated value.
@@ -55,18 +55,18 @@ fn breaks_value_read(t: Table, rf: &[u8], r: EventNo) -> bool
 }
 
 // The lowest such reader; the number of events if there is none.
-pub fn lowest_value_read(t: Table, rf: &[u8]) -> u8
+pub fn lowest_value_read(t: Table, rf: &[u8]) -> EventNo
     requires { ⌜ (t .count ≤ capacity) × (length (now rf) ≡ t .count) ⌝ }
-    ensures { λ r. ⌜ r ≡ lowest (t .count) (breaksValueRead t (now (rf .entry))) ⌝ }
+    ensures { λ r. ⌜ r .0 ≡ lowest (t .count) (breaksValueRead t (now (rf .entry))) ⌝ }
 {
     let mut r: u8 = 0;
     while r < t.count {
         if breaks_value_read(t, rf, EventNo(r)) {
-            return r;
+            return EventNo(r);
         }
         r += 1;
     }
-    t.count
+    EventNo(t.count)
 }
 
 // A final value is stated of location x, and the order leaves another.
@@ -82,16 +82,16 @@ fn breaks_final_value(t: Table, gmo: &[u8], x: LocationNo) -> bool
 }
 
 // The lowest such location; the number of locations if there is none.
-pub fn lowest_final_value(t: Table, gmo: &[u8]) -> u8
+pub fn lowest_final_value(t: Table, gmo: &[u8]) -> LocationNo
     requires { ⌜ t .locations ≤ maxLocations ⌝ }
-    ensures { λ r. ⌜ r ≡ lowest (t .locations) (breaksFinalValue t (now (gmo .entry))) ⌝ }
+    ensures { λ r. ⌜ r .0 ≡ lowest (t .locations) (breaksFinalValue t (now (gmo .entry))) ⌝ }
 {
     let mut x: u8 = 0;
     while x < t.locations {
         if breaks_final_value(t, gmo, LocationNo(x)) {
-            return x;
+            return LocationNo(x);
         }
         x += 1;
     }
-    t.locations
+    LocationNo(t.locations)
 }

@@ -12,38 +12,38 @@ ghost use Rattle.refusals.specs.TableLines.{line7, line8, line9, line10, record
 ghost use Rattle.refusals.specs.Refusals.{refusalOf};
 
 // The lowest record that line 7 refuses; the number of records if none is.
-fn lowest7(t: Table) -> u8
+fn lowest7(t: Table) -> EventNo
     requires { ⌜ t .count ≤ capacity ⌝ }
-    ensures { λ r. ⌜ r ≡ lowest (t .count) (line7 t) ⌝ }
+    ensures { λ r. ⌜ r .0 ≡ lowest (t .count) (line7 t) ⌝ }
 {
     let mut k: u8 = 0;
     while k < t.count {
         if record_lines::line7(t.harts, t.locations, t.events[k as usize]) {
-            return k;
+            return EventNo(k);
         }
         k += 1;
     }
-    t.count
+    EventNo(t.count)
 }
 
-fn lowest8(t: Table) -> u8
+fn lowest8(t: Table) -> EventNo
     requires { ⌜ t .count ≤ capacity ⌝ }
-    ensures { λ r. ⌜ r ≡ lowest (t .count) (line8 t) ⌝ }
+    ensures { λ r. ⌜ r .0 ≡ lowest (t .count) (line8 t) ⌝ }
 {
     let mut k: u8 = 0;
     while k < t.count {
         if record_lines::line8(t.events[k as usize]) {
-            return k;
+            return EventNo(k);
         }
         k += 1;
     }
-    t.count
+    EventNo(t.count)
 }
 
 // Most events depend on none, and line 9 holds of none of these: no call, which would copy the table.
-fn lowest9(t: Table) -> u8
+fn lowest9(t: Table) -> EventNo
     requires { ⌜ t .count ≤ capacity ⌝ }
-    ensures { λ r. ⌜ r ≡ lowest (t .count) (line9 t) ⌝ }
+    ensures { λ r. ⌜ r .0 ≡ lowest (t .count) (line9 t) ⌝ }
 {
     let mut k: u8 = 0;
     while k < t.count {
@@ -52,17 +52,17 @@ fn lowest9(t: Table) -> u8
             continue;
         }
         if dependency_lines::line9(t, EventNo(k)) {
-            return k;
+            return EventNo(k);
         }
         k += 1;
     }
-    t.count
+    EventNo(t.count)
 }
 
 // Line 10 holds of SCs only.
-fn lowest10(t: Table) -> u8
+fn lowest10(t: Table) -> EventNo
     requires { ⌜ t .count ≤ capacity ⌝ }
-    ensures { λ r. ⌜ r ≡ lowest (t .count) (line10 t) ⌝ }
+    ensures { λ r. ⌜ r .0 ≡ lowest (t .count) (line10 t) ⌝ }
 {
     let mut k: u8 = 0;
     while k < t.count {
@@ -71,11 +71,11 @@ fn lowest10(t: Table) -> u8
             continue;
         }
         if dependency_lines::line10(t, EventNo(k)) {
-            return k;
+            return EventNo(k);
         }
         k += 1;
     }
-    t.count
+    EventNo(t.count)
 }
 
 // The first of lines 7 to 11 that holds.
@@ -84,20 +84,20 @@ fn refuse_records(t: Table) -> Refusal
     ensures { λ r. ⌜ refusalOf r ≡ firstLine (t .count) (recordLines t) ⌝ }
 {
     let k7 = lowest7(t);
-    if k7 < t.count {
-        return Refusal::Record(7, EventNo(k7));
+    if k7.0 < t.count {
+        return Refusal::Record(7, k7);
     }
     let k8 = lowest8(t);
-    if k8 < t.count {
-        return Refusal::Record(8, EventNo(k8));
+    if k8.0 < t.count {
+        return Refusal::Record(8, k8);
     }
     let k9 = lowest9(t);
-    if k9 < t.count {
-        return Refusal::Record(9, EventNo(k9));
+    if k9.0 < t.count {
+        return Refusal::Record(9, k9);
     }
     let k10 = lowest10(t);
-    if k10 < t.count {
-        return Refusal::Record(10, EventNo(k10));
+    if k10.0 < t.count {
+        return Refusal::Record(10, k10);
     }
     if whole_lines::line11(t) {
         return Refusal::Line(11);

@@ -35,28 +35,28 @@ pub fn judge(t: Table, rf: &[u8], gmo: &[u8]) -> Verdict
     ensures { λ r. ⌜ judgedOf r ≡ answered (verdict t (now (rf .entry)) (now (gmo .entry))) ⌝ }
 {
     let pair = pairs::lowest_pair(t, rf, gmo);
-    if pair.a < t.count {
-        let a = EventNo(pair.a);
-        let b = EventNo(pair.b);
+    let a = pair.a;
+    if a.0 < t.count {
+        let b = pair.b;
         let set = rules::rule_set(t, rf, a, b);
         return Verdict::Broken(Axiom::PreservedOrder(a, b, set));
     }
     let r = stated_values::lowest_load_value(t, rf, gmo);
-    if r < t.count {
-        return Verdict::Broken(Axiom::LoadValue(EventNo(r)));
+    if r.0 < t.count {
+        return Verdict::Broken(Axiom::LoadValue(r));
     }
     let l = atomicity::lowest_lr(t, rf, gmo);
-    if l < t.count {
-        let w = atomicity::atomicity_writer(t, rf, gmo, EventNo(l));
-        return Verdict::Broken(Axiom::Atomicity(EventNo(l), EventNo(w)));
+    if l.0 < t.count {
+        let w = atomicity::atomicity_writer(t, rf, gmo, l);
+        return Verdict::Broken(Axiom::Atomicity(l, w));
     }
     let r = stated_values::lowest_value_read(t, rf);
-    if r < t.count {
-        return Verdict::Broken(Axiom::ValueRead(EventNo(r)));
+    if r.0 < t.count {
+        return Verdict::Broken(Axiom::ValueRead(r));
     }
     let x = stated_values::lowest_final_value(t, gmo);
-    if x < t.locations {
-        return Verdict::Broken(Axiom::FinalValue(LocationNo(x)));
+    if x.0 < t.locations {
+        return Verdict::Broken(Axiom::FinalValue(x));
     }
     Verdict::Allowed
 }

@@ -12,8 +12,8 @@ ghost use Rattle.verdict.specs.Pairs.{LowestPair};
 
 // Event numbers a and b; a is the number of events where there is no pair.
 pub struct Pair {
-    pub a: u8,
-    pub b: u8,
+    pub a: EventNo,
+    pub b: EventNo,
 }
 
 // Preserved order puts a before b, and the order doesn't.
@@ -31,7 +31,7 @@ fn breaks_ppo(t: Table, rf: &[u8], gmo: &[u8], a: EventNo, b: EventNo) -> bool
 // "the lowest a, and for that a the lowest b". Of a pair that no rule can order no call, which would copy the table.
 pub fn lowest_pair(t: Table, rf: &[u8], gmo: &[u8]) -> Pair
     requires { ⌜ (t .count ≤ capacity) × (length (now rf) ≡ t .count) ⌝ }
-    ensures { λ r. ⌜ LowestPair (t .count) (breaksPpo t (now (rf .entry)) (now (gmo .entry))) (r .a) (r .b) ⌝ }
+    ensures { λ r. ⌜ LowestPair (t .count) (breaksPpo t (now (rf .entry)) (now (gmo .entry))) (r .a .0) (r .b .0) ⌝ }
 {
     let mut a: u8 = 0;
     let mut b: u8 = 0;
@@ -50,5 +50,8 @@ pub fn lowest_pair(t: Table, rf: &[u8], gmo: &[u8]) -> Pair
         }
         a += 1;
     }
-    Pair { a, b }
+    Pair {
+        a: EventNo(a),
+        b: EventNo(b),
+    }
 }

@@ -79,7 +79,7 @@ fn breaks_nothing(t: Table, gmo: &[u8], returned: &mut [u8]) -> bool
     if some_broken(t, &returned[..n], gmo) {
         return false;
     }
-    !(atomicity::lowest_lr(t, &returned[..n], gmo) < t.count)
+    !(atomicity::lowest_lr(t, &returned[..n], gmo).0 < t.count)
 }
 
 // The order at the front of the array is lawful.

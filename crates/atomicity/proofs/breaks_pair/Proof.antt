@@ -16,8 +16,8 @@ lowest-intruder-requires c κs = search needs
 returns : tie.Need-returns
 unfolding breaksPair
 returns c =
-    rw (c .before .before .write-is-late .ensures, c .before .lowest-intruder .ensures)
-    (and-taken _ _ (rw (c .before .before .before .before .paired .ensures) at (c .before .before .before .if1 .taken)))
+    rw (c .before .before .before .write-is-late .ensures, c .before .before .lowest-intruder .ensures)
+    (and-taken _ _ (rw (c .before .before .before .before .before .paired .ensures) at (c .before .before .before .before .if1 .taken)))
 
 returns-2 : tie.Need-returns-2
 unfolding breaksPair

@@ -45,8 +45,8 @@ lowest-sc-requires c κs = search needs
 returns : tie.Need-returns Inv-loop μ-loop
 unfolding breaksAtomicity
 returns c =
-    let v = c .before .before .before .before .loop in
-    sym (scan-hit _ _ _ (v .inv) (omega arith) (some-below _ _ _ (c .before .lowest-sc .ensures) (c .if2 .taken)))
+    let v = c .before .before .before .before .before .loop in
+    sym (scan-hit _ _ _ (v .inv) (omega arith) (some-below _ _ _ (c .before .before .lowest-sc .ensures) (c .if2 .taken)))
 
 add-l-2 : tie.Need-add-l-2 Inv-loop μ-loop
 add-l-2 c = search needs
@@ -57,8 +57,8 @@ loop-less-2 c = search needs
 loop-again-2 : tie.Need-loop-again-2 Inv-loop μ-loop
 unfolding breaksAtomicity
 loop-again-2 c =
-    let v = c .before .before .before .before .loop in
-    scan-more _ _ _ (v .inv) (omega arith) (none-below _ _ _ (c .before .lowest-sc .ensures) (c .if2 .left))
+    let v = c .before .before .before .before .before .loop in
+    scan-more _ _ _ (v .inv) (omega arith) (none-below _ _ _ (c .before .before .lowest-sc .ensures) (c .if2 .left))
 
 returns-2 : tie.Need-returns-2 Inv-loop μ-loop
 returns-2 c = sym (scan-end _ _ _ (c .before .loop .inv) (omega arith))

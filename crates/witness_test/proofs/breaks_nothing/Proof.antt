@@ -49,9 +49,9 @@ same-length-2 c = search needs
 returns-2 : tie.Need-returns-2
 returns-2 c =
     let s = c .before .before .before .before .before .before .before .before .before .before .before .before .before in
-    let d = determined _ _ _ _ (c .before .before .before .before .before .before .before .before .before .determine .ensures) in
-    atomicity-decides _ _ (s .pre .2) (s .pre .3) _ (rw (c .before .before .before .before .some-broken .ensures, d) at (c .before .before .before .if1 .left))
-    (c .before .lowest-lr .ensures ∙ rw d)
+    let d = determined _ _ _ _ (c .before .before .before .before .before .before .before .before .before .before .determine .ensures) in
+    atomicity-decides _ _ (s .before .pre .2) (s .before .pre .3) _ (rw (c .before .before .before .before .before .some-broken .ensures, d) at (c .before .before .before .before .if1 .left))
+    (c .before .before .lowest-lr .ensures ∙ rw d)
 
 pub breaks-nothing-spec : {M : Type 1} → statement M
 breaks-nothing-spec =
