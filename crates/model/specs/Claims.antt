@@ -7,6 +7,7 @@ use mathlib.Core.List.{List, [], _∷_, _++_}
 use lib.ListN.{length, replicate}
 use Rattle.lists.specs.Below.{below}
 use Rattle.lists.specs.Lists.{kept}
+use Rattle.edition.specs.Limits.{maxEvents}
 use Rattle.table.specs.declared.Event.{Event}
 use Rattle.table.specs.declared.Table.{Table}
 use Rattle.refusals.specs.Lines.{Refused, accepted, firstLine}
@@ -184,9 +185,9 @@ orderedPairs t rf = pairsFrom t rf (below (t .count))
 abbrev pub namedWriter : Table → List ℕ → List ℕ → ℕ → List ℕ
 namedWriter t rf gmo l = kept (breaksAtomicity t rf gmo l) (atomicityWriter t rf gmo l) []
 
--- the refusal of a table by lines 5 to 11, of "up to .. 16 events"; extra: a byte that is no field and is named zero isn't
+-- the refusal of a table by lines 5 to 11, with the most events that reading allows; extra: a byte that is no field and is named zero isn't
 abbrev pub refusal : Bool → Table → Refused
-refusal extra t = firstLine (t .count) (tableLines 16 extra t)
+refusal extra t = firstLine (t .count) (tableLines maxEvents extra t)
 
 -- What is stated of a case.
 pub data Claim : Type 0 where
