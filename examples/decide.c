@@ -1,5 +1,5 @@
 /*
- * Decides the test in a block file: prints whether the outcome is allowed, and exits with a status that says so.
+ * Decides the test in a file: prints whether the outcome is allowed, and exits with a status that says so.
  *
  *   gcc -std=c11 -O2 -Iinclude -o target/decide examples/decide.c target/staticlib/libcapi.a
  *   target/decide samples/C1.block
@@ -18,17 +18,18 @@ static const uint64_t DEFAULT_ALLOWANCE = 1000000;
 
 static const char USAGE[] =
     "usage: decide FILE [ALLOWANCE]\n"
-    "FILE holds one block of 512 bytes. At most ALLOWANCE prefixes are visited: 1000000, or up to 1000000000.\n"
+    "FILE holds one test: a block of 512 bytes, or three of them in edition 2. At most ALLOWANCE prefixes are visited:\n"
+    "1000000, or up to 1000000000.\n"
     "Exit status: 0 allowed, 1 forbidden, 2 undecided, 3 refused or not readable.\n";
 
-/* Reads the file, but no more than one byte past a block: a longer one is refused all the same. False if it can't. */
-static int read_file(const char *path, uint8_t block[CT_BLOCK + 1], size_t *length)
+/* Reads the file, but no more than one byte past the longest test: a longer one is refused all the same. False if it can't. */
+static int read_file(const char *path, uint8_t test[CT_TEST + 1], size_t *length)
 {
     FILE *file = fopen(path, "rb");
     if (file == NULL) {
         return 0;
     }
-    *length = fread(block, 1, CT_BLOCK + 1, file);
+    *length = fread(test, 1, CT_TEST + 1, file);
     int good = !ferror(file);
     fclose(file);
     return good;
@@ -63,11 +64,11 @@ static enum status allowed(uint64_t word, const uint8_t *order)
     return ALLOWED;
 }
 
-static enum status decide(const uint8_t *block, size_t length, uint64_t allowance)
+static enum status decide(const uint8_t *test, size_t length, uint64_t allowance)
 {
     uint8_t order[CT_EVENTS];
     /* The start is empty; its pointer must not be null all the same. */
-    uint64_t word = ct_search(block, length, block, 0, order, sizeof order, allowance);
+    uint64_t word = ct_search(test, length, test, 0, order, sizeof order, allowance);
     switch (CT_CASE(word)) {
     case CT_FOUND:
         return allowed(word, order);
@@ -84,16 +85,16 @@ static enum status decide(const uint8_t *block, size_t length, uint64_t allowanc
 
 int main(int count, char **arguments)
 {
-    uint8_t block[CT_BLOCK + 1];
+    uint8_t test[CT_TEST + 1];
     size_t length = 0;
     uint64_t allowance = DEFAULT_ALLOWANCE;
     if (count < 2 || count > 3 || (count == 3 && !read_number(arguments[2], &allowance))) {
         fputs(USAGE, stderr);
         return UNUSABLE;
     }
-    if (!read_file(arguments[1], block, &length)) {
+    if (!read_file(arguments[1], test, &length)) {
         fprintf(stderr, "%s: %s\n", arguments[1], strerror(errno));
         return UNUSABLE;
     }
-    return decide(block, length, allowance);
+    return decide(test, length, allowance);
 }

@@ -1,5 +1,6 @@
 /*
- * Goes through the blocks of a suite: where each stands, and whether it is a good test.
+ * Goes through the blocks of a suite: where each stands, and whether it is by itself a good test, of edition 1. examples/tests.c
+ * goes through its tests, of both editions.
  *
  *   gcc -std=c11 -O2 -Iinclude -o target/parts examples/parts.c target/staticlib/libcapi.a
  *   target/parts samples/suite

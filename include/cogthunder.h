@@ -7,14 +7,15 @@
  * refusal alters none at all. A pointer must be valid for the length that follows it, and must not be null, also where
  * that length is 0. `out` must not overlap another argument. No function keeps a pointer, allocates, or has a state.
  *
- * A test is a block of 512 bytes; docs/FORMAT.md has its fields, the lists and the word, with an example worked in hex.
- * Events are numbered from 0 in the order of the table, locations from 0.
+ * A test is a block of 512 bytes, or three of them in edition 2; docs/FORMAT.md has its fields, the lists and the word, with an
+ * example worked in hex. Every function that takes a test takes both editions. Events are numbered from 0 in the order of the
+ * table, locations from 0.
  *
  * The word
  * --------
- * All functions but ct_table_of and ct_blocks answer by one word, ct_part_of by one in a struct. Byte 0, the lowest, is the
- * case; bytes that the table doesn't name are 0. A set of rules is in bytes 4 and 5: bit r - 1, counted from the lowest of byte 4, is rule r, from 1
- * to 13.
+ * All functions but ct_table_of, ct_blocks, ct_test_length and ct_next answer by one word, ct_part_of by one in a struct. Byte 0,
+ * the lowest, is the case; bytes that the table doesn't name are 0. A set of rules is in bytes 4 and 5: bit r - 1, counted from
+ * the lowest of byte 4, is rule r, from 1 to 13.
  *
  *   case                   byte 1              byte 2                      byte 3        bytes 4 to 7
  *   0  good                -                   -                           -             ct_rules: set of rules
@@ -39,15 +40,16 @@
 extern "C" {
 #endif
 
-/* The length of a block. */
+/* The length of a block, and that of the longest test, which is one of edition 2. */
 #define CT_BLOCK 512u
+#define CT_TEST (3u * CT_BLOCK)
 
 /* How many locations a table has values for, and how many events it has room for. */
 #define CT_LOCATIONS 8u
 #define CT_SLOTS 32u
 
-/* A test has at most this many events: the entries of a returned list, and of an order. */
-#define CT_EVENTS 16u
+/* A test has at most this many events, one of edition 1 up to 16: the entries of a returned list, and of an order. */
+#define CT_EVENTS 30u
 
 /* The largest allowance of a search. */
 #define CT_ALLOWANCE UINT64_C(1000000000)
@@ -100,7 +102,7 @@ struct ct_event {
     uint8_t kind;      /* 1 load, 2 store, 3 AMO, 4 LR, 5 SC, 6 fence, 7 fence.tso */
     uint8_t hart;
     uint8_t location;
-    uint8_t flags;     /* as in a block (docs/FORMAT.md) */
+    uint8_t flags;     /* as in a record (docs/FORMAT.md) */
     uint32_t addr;     /* mask of the events that the address depends on */
     uint32_t data;     /* .. that the data depend on */
     uint32_t ctrl;     /* .. that it has a control dependency on */
@@ -124,16 +126,19 @@ struct ct_table {
     uint16_t finals[CT_LOCATIONS];
 };
 
-/* Reads a block. Case 0: the test is good. Case 1: refusal 1 to 11. */
-uint64_t ct_read(const uint8_t *block, size_t block_len);
-
-/* The table of a block: all zero if reading refuses it, which ct_read says. ct_write then gives the block back. */
-struct ct_table ct_table_of(const uint8_t *block, size_t block_len);
+/* Reads a test. Case 0: it is good. Case 1: refusal 1 to 11. */
+uint64_t ct_read(const uint8_t *test, size_t test_len);
 
 /*
- * Writes the block of a table to `out`, which has CT_BLOCK bytes. Any numbers may stand in the table. Case 1: refusal 1 if
- * `out` has another length, else 5 to 11, the numbers and records by which reading refuses. Case 0: written. Reading the
- * block then gives case 0, and it is the only block of this table.
+ * The table of a test: all zero if reading refuses it, which ct_read says. Where the test is a block, of edition 1, ct_write then
+ * gives it back.
+ */
+struct ct_table ct_table_of(const uint8_t *test, size_t test_len);
+
+/*
+ * Writes the block of a table, of edition 1, to `out`, which has CT_BLOCK bytes. Any numbers may stand in the table. Case 1:
+ * refusal 1 if `out` has another length, else 5 to 11, the numbers and records by which reading refuses; more than 16 events are
+ * refused by 5. Case 0: written. Reading the block then gives case 0, and it is the only block of this table.
  */
 uint64_t ct_write(struct ct_table table, uint8_t *out, size_t out_len);
 
@@ -142,7 +147,7 @@ uint64_t ct_write(struct ct_table table, uint8_t *out, size_t out_len);
  * CT_INITIALLY, or CT_NOTHING for an event that doesn't read. `order` is the global memory order: each memory event
  * once. Case 0: allowed. Case 1: refusal 1 to 14. Cases 2 to 6: the first axiom or stated value that is broken.
  */
-uint64_t ct_verdict(const uint8_t *block, size_t block_len, const uint8_t *returned, size_t returned_len,
+uint64_t ct_verdict(const uint8_t *test, size_t test_len, const uint8_t *returned, size_t returned_len,
                     const uint8_t *order, size_t order_len);
 
 /*
@@ -150,14 +155,14 @@ uint64_t ct_verdict(const uint8_t *block, size_t block_len, const uint8_t *retur
  * `returned` as for a candidate. Case 0: the set of these rules, which is empty unless both are memory events of the test
  * and `a` is earlier on the same hart. Case 1: refusal 1 to 12 or 14.
  */
-uint64_t ct_rules(const uint8_t *block, size_t block_len, const uint8_t *returned, size_t returned_len, uint64_t a,
+uint64_t ct_rules(const uint8_t *test, size_t test_len, const uint8_t *returned, size_t returned_len, uint64_t a,
                   uint64_t b);
 
 /*
  * Writes the returned list that an order determines to the front of `out`, which has room for an entry for each event
  * (CT_EVENTS is enough for any test); bytes past it stay. Case 0: written. Case 1: refusal 1 to 13 or 16.
  */
-uint64_t ct_returns(const uint8_t *block, size_t block_len, const uint8_t *order, size_t order_len, uint8_t *out,
+uint64_t ct_returns(const uint8_t *test, size_t test_len, const uint8_t *order, size_t order_len, uint8_t *out,
                     size_t out_len);
 
 /*
@@ -168,7 +173,7 @@ uint64_t ct_returns(const uint8_t *block, size_t block_len, const uint8_t *order
  * Case 7, found: the order of the witness is written. Case 8, none left: nothing is written. Case 9, spent: the last
  * prefix visited is written. Case 1: refusal 1 to 11 or 15 to 17.
  */
-uint64_t ct_search(const uint8_t *block, size_t block_len, const uint8_t *start, size_t start_len, uint8_t *out,
+uint64_t ct_search(const uint8_t *test, size_t test_len, const uint8_t *start, size_t start_len, uint8_t *out,
                    size_t out_len, uint64_t allowance);
 
 /* How many blocks a suite has; a last part block counts. */
@@ -186,6 +191,19 @@ struct ct_part {
  * 18 if the suite has no block k.
  */
 struct ct_part ct_part_of(const uint8_t *suite, size_t suite_len, uint64_t k);
+
+/*
+ * How many bytes the test that begins at block k of a suite has, from `suite + CT_BLOCK * k` on: those of three blocks if block k
+ * by itself is refused neither by 2 nor by 3 and states edition 2, else those of one. A test that is cut has what is left, and 0
+ * says that block k isn't in the suite.
+ */
+uint64_t ct_test_length(const uint8_t *suite, size_t suite_len, uint64_t k);
+
+/*
+ * The number of the block where the test after that at block k begins: k + 3 after a good test of edition 2, k + 1 after any
+ * other, refused or not. It is k itself if block k isn't in the suite.
+ */
+uint64_t ct_next(const uint8_t *suite, size_t suite_len, uint64_t k);
 
 #ifdef __cplusplus
 }

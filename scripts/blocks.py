@@ -1,8 +1,10 @@
-"""Writes a test as a block of 512 bytes, for the scripts."""
+"""Writes a test as a block of 512 bytes, of edition 1, and parts a suite of both editions, for the scripts."""
 import struct
 
 BLOCK, RECORD, RECORDS, INITIAL, FINALS, CHECKED = 512, 16, 32, 16, 288, 508
 EDITION, EDITION_AT = 1, 4
+# The bytes of a test, by its edition.
+LENGTHS = {1: BLOCK, 2: 3 * BLOCK}
 FIELDS = ("addr", "data", "ctrl", "rval", "wval")
 # Of an AMO; 0 where an event doesn't name them.
 OPERATION = ("operation", "operand")
@@ -17,6 +19,15 @@ def sealed(b):
     """The block with its check made right."""
     check = sum((i + 1) * v for i, v in enumerate(b[:CHECKED]))
     return bytes(b[:CHECKED]) + struct.pack("<I", check)
+
+
+def tests(suite):
+    """The tests of a suite of good ones."""
+    at = 0
+    while at < len(suite):
+        length = LENGTHS[suite[at + EDITION_AT]]
+        yield suite[at:at + length]
+        at += length
 
 
 def block(test):

@@ -1,8 +1,9 @@
 //! One call, and its outcome by the library and by the independent program.
 
 use crate::lent::Room;
-use cogthunder::{Answer, Axiom, Event, Refusal, Rules, Table, Verdict, Witnesses};
-use oracle::raw::{RawEvent, RawTable};
+use cogthunder::{Answer, Axiom, Event, Refusal, Rules, Table, Tests, Verdict, Witnesses};
+use oracle::raw::RawTable;
+use oracle::record::RawEvent;
 use oracle::search::MAX_ALLOWANCE;
 use std::fmt;
 use std::ops::Range;
@@ -10,10 +11,10 @@ use std::ops::Range;
 /// "Block number not in the suite".
 const NOT_IN_SUITE: u8 = 18;
 
-/// A block, and which entry is called with it. The block is empty if that is the writer.
+/// A test or a suite, and which entry is called with it. There are no bytes if that is the writer.
 #[derive(Clone, PartialEq, Eq, Debug)]
 pub struct Call {
-    pub block: Vec<u8>,
+    pub bytes: Vec<u8>,
     pub entry: Entry,
 }
 
@@ -43,17 +44,29 @@ pub enum Entry {
         out: Vec<u8>,
         allowance: u64,
     },
-    Blocks,
-    /// Block k of the suite that `block` then is.
-    Part {
-        k: u64,
-    },
+    Suite(OfSuite),
     /// All witnesses after a start, by the iterator: it is resumed after some search calls with the given allowance.
     Witnesses {
         start: Vec<u8>,
         allowance: u64,
         steps: usize,
     },
+}
+
+/// What is asked of a suite.
+#[derive(Clone, PartialEq, Eq, Debug)]
+pub enum OfSuite {
+    Blocks,
+    /// Block k.
+    Part {
+        k: u64,
+    },
+    /// The test that begins at block k, and where the next one does.
+    Test {
+        k: u64,
+    },
+    /// All tests, by the iterator.
+    Tests,
 }
 
 #[derive(Clone, PartialEq, Eq, Debug)]
@@ -66,6 +79,8 @@ pub enum Reply {
     Searched(Answer),
     Blocks(u64),
     Part(Range<usize>),
+    Test { length: usize, next: u64 },
+    Tests(Vec<(u64, Range<usize>)>),
     Witnesses { orders: Vec<Vec<u8>>, visited: u64 },
 }
 
@@ -96,45 +111,42 @@ impl From<oracle::table::Refusal> for Reply {
 
 /// The proved library through its Rust package. Each slice is lent from a room of its own.
 pub struct Library {
-    block: Room,
+    bytes: Room,
     first: Room,
     second: Room,
 }
 
 impl Library {
     pub fn new(room: fn() -> Room) -> Library {
-        Library { block: room(), first: room(), second: room() }
+        Library { bytes: room(), first: room(), second: room() }
     }
 
     fn reply(&mut self, call: &Call) -> Reply {
-        let block = self.block.lend(&call.block);
+        let bytes = self.bytes.lend(&call.bytes);
         match &call.entry {
-            Entry::Read => Table::of_block(block).map_or_else(Reply::from, |table| Reply::Table(Box::new(table))),
+            Entry::Read => Table::of_test(bytes).map_or_else(Reply::from, |table| Reply::Table(Box::new(table))),
             Entry::Write { table, out } => {
                 cogthunder::write(&same_table(table), self.second.lend(out)).map_or_else(Reply::from, |()| Reply::Good)
             }
             Entry::Verdict { returned, order } => {
-                match cogthunder::verdict(block, self.first.lend(returned), self.second.lend(order)) {
+                match cogthunder::verdict(bytes, self.first.lend(returned), self.second.lend(order)) {
                     Err(refusal) => refusal.into(),
                     Ok(Verdict::Allowed) => Reply::Good,
                     Ok(Verdict::Broken(axiom)) => Reply::Broken(axiom),
                 }
             }
             Entry::Rules { returned, a, b } => {
-                cogthunder::rules(block, self.first.lend(returned), *a, *b).map_or_else(Reply::from, Reply::Rules)
+                cogthunder::rules(bytes, self.first.lend(returned), *a, *b).map_or_else(Reply::from, Reply::Rules)
             }
-            Entry::Returns { order, out } => cogthunder::returns(block, self.first.lend(order), self.second.lend(out))
+            Entry::Returns { order, out } => cogthunder::returns(bytes, self.first.lend(order), self.second.lend(out))
                 .map_or_else(Reply::from, |()| Reply::Good),
             Entry::Search { start, out, allowance } => {
-                cogthunder::search(block, self.first.lend(start), self.second.lend(out), *allowance)
+                cogthunder::search(bytes, self.first.lend(start), self.second.lend(out), *allowance)
                     .map_or_else(Reply::from, Reply::Searched)
             }
-            Entry::Blocks => Reply::Blocks(cogthunder::blocks(block)),
-            Entry::Part { k } => {
-                cogthunder::part(block, *k).map_or_else(Reply::from, |part| Reply::Part(place_in(block, part)))
-            }
+            Entry::Suite(asked) => suite_reply(bytes, asked),
             Entry::Witnesses { start, allowance, steps } => {
-                walk(block, self.first.lend(start), *allowance, *steps).unwrap_or_else(Reply::from)
+                walk(bytes, self.first.lend(start), *allowance, *steps).unwrap_or_else(Reply::from)
             }
         }
     }
@@ -142,7 +154,7 @@ impl Library {
     fn altered(&mut self, call: &Call) -> Vec<&'static str> {
         let (first, second) = call.entry.inputs();
         let rooms = [
-            ("the block", &mut self.block, Some(&call.block[..])),
+            ("the test or the suite", &mut self.bytes, Some(&call.bytes[..])),
             ("the list after it", &mut self.first, first),
             ("the second list or the buffer", &mut self.second, second),
         ];
@@ -157,10 +169,10 @@ impl Library {
 }
 
 impl Entry {
-    /// The lists that are lent beside the block, and must stay as they are.
+    /// The lists that are lent beside the test, and must stay as they are.
     fn inputs(&self) -> (Option<&[u8]>, Option<&[u8]>) {
         match self {
-            Entry::Read | Entry::Write { .. } | Entry::Blocks | Entry::Part { .. } => (None, None),
+            Entry::Read | Entry::Write { .. } | Entry::Suite(_) => (None, None),
             Entry::Verdict { returned, order } => (Some(returned), Some(order)),
             Entry::Rules { returned: list, .. }
             | Entry::Returns { order: list, .. }
@@ -187,6 +199,19 @@ impl Bench for Library {
     }
 }
 
+fn suite_reply(suite: &[u8], asked: &OfSuite) -> Reply {
+    match *asked {
+        OfSuite::Blocks => Reply::Blocks(cogthunder::blocks(suite)),
+        OfSuite::Part { k } => {
+            cogthunder::part(suite, k).map_or_else(Reply::from, |part| Reply::Part(place_in(suite, part)))
+        }
+        OfSuite::Test { k } => {
+            Reply::Test { length: cogthunder::test_length(suite, k), next: cogthunder::next_test(suite, k) }
+        }
+        OfSuite::Tests => Reply::Tests(Tests::of(suite).map(|(k, test)| (k, place_in(suite, test))).collect()),
+    }
+}
+
 /// Where a part of the bytes stands in them.
 fn place_in(bytes: &[u8], part: &[u8]) -> Range<usize> {
     let from = part.as_ptr() as usize - bytes.as_ptr() as usize;
@@ -194,9 +219,9 @@ fn place_in(bytes: &[u8], part: &[u8]) -> Range<usize> {
 }
 
 /// Walks by the iterator: after some search calls it is thrown away, and another one resumed where it stood.
-fn walk(block: &[u8], start: &[u8], allowance: u64, steps: usize) -> Result<Reply, Refusal> {
+fn walk(test: &[u8], start: &[u8], allowance: u64, steps: usize) -> Result<Reply, Refusal> {
     let mut orders = Vec::new();
-    let mut walk = Witnesses::resume(block, start)?.allowance(allowance);
+    let mut walk = Witnesses::resume(test, start)?.allowance(allowance);
     for _ in 0..steps {
         match walk.step() {
             Answer::Found { .. } => orders.push(walk.start().to_vec()),
@@ -204,7 +229,7 @@ fn walk(block: &[u8], start: &[u8], allowance: u64, steps: usize) -> Result<Repl
             Answer::NoneLeft { .. } => return Ok(Reply::Witnesses { orders, visited: walk.visited() }),
         }
     }
-    let mut rest = Witnesses::resume(block, walk.start())?.allowance(allowance);
+    let mut rest = Witnesses::resume(test, walk.start())?.allowance(allowance);
     orders.extend(&mut rest);
     Ok(Reply::Witnesses { orders, visited: walk.visited() + rest.visited() })
 }
@@ -221,31 +246,44 @@ impl Bench for Reference {
 }
 
 fn reference_reply(call: &Call, buffer: &mut [u8]) -> Reply {
-    let block = &call.block;
+    let bytes = &call.bytes;
     match &call.entry {
-        Entry::Read => oracle::table::read(block)
-            .map_or_else(Reply::from, |_| Reply::Table(Box::new(same_table(&RawTable::of_block(block))))),
+        Entry::Read => oracle::table::read(bytes)
+            .map_or_else(Reply::from, |table| Reply::Table(Box::new(same_table(&RawTable::from(&table))))),
         Entry::Write { table, .. } => oracle::raw::write(table, buffer).map_or_else(Reply::from, |()| Reply::Good),
-        Entry::Verdict { returned, order } => match oracle::candidate::verdict(block, returned, order) {
+        Entry::Verdict { returned, order } => match oracle::candidate::verdict(bytes, returned, order) {
             Err(refusal) => refusal.into(),
             Ok(None) => Reply::Good,
             Ok(Some(axiom)) => Reply::Broken(same_axiom(axiom)),
         },
-        Entry::Rules { returned, a, b } => oracle::candidate::pair_rules(block, returned, *a, *b)
+        Entry::Rules { returned, a, b } => oracle::candidate::pair_rules(bytes, returned, *a, *b)
             .map_or_else(Reply::from, |rules| Reply::Rules(same_rules(&rules))),
         Entry::Returns { order, .. } => {
-            oracle::candidate::write_returned(block, order, buffer).map_or_else(Reply::from, |()| Reply::Good)
+            oracle::candidate::write_returned(bytes, order, buffer).map_or_else(Reply::from, |()| Reply::Good)
         }
-        Entry::Search { start, allowance, .. } => oracle::search::search(block, start, buffer, *allowance)
+        Entry::Search { start, allowance, .. } => oracle::search::search(bytes, start, buffer, *allowance)
             .map_or_else(Reply::from, |answer| Reply::Searched(same_answer(&answer))),
-        Entry::Blocks => Reply::Blocks(block.chunks(oracle::layout::BLOCK_LENGTH).len() as u64),
-        Entry::Part { k } => {
-            let part = usize::try_from(*k).ok().and_then(|k| block.chunks(oracle::layout::BLOCK_LENGTH).nth(k));
+        Entry::Suite(asked) => reference_suite(bytes, asked),
+        Entry::Witnesses { start, .. } => reference_walk(bytes, start).unwrap_or_else(Reply::from),
+    }
+}
+
+fn reference_suite(suite: &[u8], asked: &OfSuite) -> Reply {
+    use oracle::suite::{next_block, test_at, tests};
+    let mut blocks = suite.chunks(oracle::layout::BLOCK_LENGTH);
+    match *asked {
+        OfSuite::Blocks => Reply::Blocks(blocks.len() as u64),
+        OfSuite::Part { k } => {
+            let part = usize::try_from(k).ok().and_then(|k| blocks.nth(k));
             part.map_or(Reply::Refused { number: NOT_IN_SUITE, record: None }, |part| {
-                Reply::Part(place_in(block, part))
+                Reply::Part(place_in(suite, part))
             })
         }
-        Entry::Witnesses { start, .. } => reference_walk(block, start).unwrap_or_else(Reply::from),
+        OfSuite::Test { k } => {
+            let k = k as usize;
+            Reply::Test { length: test_at(suite, k).len(), next: next_block(suite, k) as u64 }
+        }
+        OfSuite::Tests => Reply::Tests(tests(suite).map(|(k, test)| (k as u64, place_in(suite, test))).collect()),
     }
 }
 
@@ -295,14 +333,14 @@ fn same_answer(answer: &oracle::search::Answer) -> Answer {
 }
 
 /// From witness to witness, to the end.
-fn reference_walk(block: &[u8], start: &[u8]) -> Result<Reply, oracle::table::Refusal> {
+fn reference_walk(test: &[u8], start: &[u8]) -> Result<Reply, oracle::table::Refusal> {
     use oracle::search::Answer as Other;
     let mut start = start.to_vec();
     let mut orders = Vec::new();
     let mut total = 0;
-    let mut buffer = [0; oracle::layout::MAX_EVENTS];
+    let mut buffer = [0; oracle::layout::MOST_EVENTS];
     loop {
-        match oracle::search::search(block, &start, &mut buffer, MAX_ALLOWANCE)? {
+        match oracle::search::search(test, &start, &mut buffer, MAX_ALLOWANCE)? {
             Other::Found { visited, order } => {
                 start = buffer[..order.len()].to_vec();
                 orders.push(start.clone());
@@ -323,8 +361,10 @@ impl Entry {
             Entry::Rules { .. } => "rules",
             Entry::Returns { .. } => "returns",
             Entry::Search { .. } => "search",
-            Entry::Blocks => "blocks",
-            Entry::Part { .. } => "part",
+            Entry::Suite(OfSuite::Blocks) => "blocks",
+            Entry::Suite(OfSuite::Part { .. }) => "part",
+            Entry::Suite(OfSuite::Test { .. }) => "test",
+            Entry::Suite(OfSuite::Tests) => "tests",
             Entry::Witnesses { .. } => "witnesses",
         }
     }
@@ -339,7 +379,7 @@ fn hex(bytes: &[u8]) -> String {
 impl fmt::Display for Call {
     fn fmt(&self, f: &mut fmt::Formatter) -> fmt::Result {
         writeln!(f, "{:?}", self.entry)?;
-        write!(f, "block, {} bytes:\n{}", self.block.len(), hex(&self.block))
+        write!(f, "{} bytes:\n{}", self.bytes.len(), hex(&self.bytes))
     }
 }
 

@@ -1,15 +1,16 @@
 //! Random calls, in rounds. A round has one table or one string of bytes, and makes some calls with it.
 
-use crate::call::{Call, Entry, Outcome, Reply};
+use crate::call::{Call, Entry, OfSuite, Outcome, Reply};
 use crate::comparison::{Comparison, Difference};
 use crate::writes::writes;
 use cogthunder::Answer;
-use oracle::encode::encode;
-use oracle::generate::candidates::{any_pair, choose_outcome, contended_table, other_return, returned_list, with_swap};
-use oracle::generate::damage::damaged;
+use oracle::encode::encode_in;
+use oracle::generate::candidates::*;
+use oracle::generate::chains::chained_table;
+use oracle::generate::damage::damaged_in;
 use oracle::generate::orders::*;
 use oracle::generate::prng::Prng;
-use oracle::generate::random::{any_table, random_table};
+use oracle::generate::random::{any_table, random_table, wide_table};
 use oracle::generate::readings::random_block;
 use oracle::generate::walks::any_buffer_length;
 use oracle::layout::*;
@@ -21,7 +22,7 @@ use oracle::table::*;
 type Round = fn(&mut Prng, &mut Comparison) -> Result<(), Box<Difference>>;
 
 /// As often as they shall come.
-const ROUNDS: [Round; 18] = [
+const ROUNDS: [Round; 20] = [
     candidates,
     candidates,
     candidates,
@@ -30,6 +31,7 @@ const ROUNDS: [Round; 18] = [
     small_walk,
     small_walk,
     small_walk,
+    chain_walk,
     witnesses,
     damaged_table,
     damaged_table,
@@ -38,6 +40,7 @@ const ROUNDS: [Round; 18] = [
     fences_only,
     random_bytes,
     suite,
+    mixed_suite,
     writes,
     writes,
 ];
@@ -49,22 +52,24 @@ const MOST_CALLS: usize = 30;
 /// Calls of a round that has no end of its own.
 pub const SOME_CALLS: usize = 6;
 const LONGEST_SUITE: usize = 5000;
-pub const LONGEST_BYTES: usize = 1100;
+/// Tests or parts of one in a mixed suite.
+const MOST_PARTS: usize = 5;
+pub const LONGEST_BYTES: usize = 2000;
 const LONGEST_LIST: usize = 300;
 
 pub fn round(prng: &mut Prng, comparison: &mut Comparison) -> Result<(), Box<Difference>> {
     prng.pick(&ROUNDS)(prng, comparison)
 }
 
-/// The calls with one block.
+/// The calls with one test or one suite.
 struct Calls<'a> {
     comparison: &'a mut Comparison,
-    block: Vec<u8>,
+    bytes: Vec<u8>,
 }
 
 impl Calls<'_> {
     fn call(&mut self, entry: Entry) -> Result<Outcome, Box<Difference>> {
-        self.comparison.call(Call { block: self.block.clone(), entry })
+        self.comparison.call(Call { bytes: self.bytes.clone(), entry })
     }
 
     fn search(
@@ -90,7 +95,7 @@ fn candidates(prng: &mut Prng, comparison: &mut Comparison) -> Result<(), Box<Di
     if let Some(order) = &lawful {
         choose_outcome(prng, &mut table, order);
     }
-    let mut calls = Calls { comparison, block: encode(&table) };
+    let mut calls = Calls { comparison, bytes: any_test(prng, &table) };
     calls.call(Entry::Read)?;
     for _ in 0..SOME_CALLS {
         let order = match &lawful {
@@ -106,16 +111,31 @@ fn candidates(prng: &mut Prng, comparison: &mut Comparison) -> Result<(), Box<Di
     Ok(())
 }
 
+/// Mostly a test of edition 1, where that has room for the table's events.
+fn any_edition(prng: &mut Prng, table: &Table) -> Edition {
+    if table.events.len() > one::MAX_EVENTS || prng.one_in(4) {
+        Edition::Two
+    } else {
+        Edition::One
+    }
+}
+
+fn any_test(prng: &mut Prng, table: &Table) -> Vec<u8> {
+    encode_in(any_edition(prng, table), table)
+}
+
 /// Tables of any size, tables whose harts meet at few locations, smaller ones whose harts meet at one, and tables with
-/// many annotations.
+/// many annotations; and two kinds of tables with more events than edition 1 has room for.
 pub fn any_shape(prng: &mut Prng) -> Table {
-    match prng.below(4) {
+    match prng.below(6) {
         0 => any_table(prng),
         1 => contended_table(prng),
         2 => {
             let (harts, events) = (2 + prng.below(MAX_HARTS - 1), 2 + prng.below(FEW_EVENTS));
             random_table(prng, harts, 1, events)
         }
+        3 => wide_contended_table(prng),
+        4 => wide_table(prng),
         _ => annotated_table(prng),
     }
 }
@@ -165,7 +185,7 @@ fn candidate(prng: &mut Prng, calls: &mut Calls, table: &Table, order: &[usize])
 fn nearly(prng: &mut Prng, list: &[u8]) -> Vec<u8> {
     let mut list = list.to_vec();
     let at = prng.below(list.len() + 1);
-    let entry = if prng.one_in(2) { prng.below(MAX_EVENTS + 1) as u8 } else { prng.bits() as u8 };
+    let entry = if prng.one_in(2) { prng.below(MOST_EVENTS + 1) as u8 } else { prng.bits() as u8 };
     match prng.below(4) {
         0 if at < list.len() => drop(list.remove(at)),
         1 => list.insert(at, entry),
@@ -191,7 +211,17 @@ fn table_with_outcome(prng: &mut Prng, events: usize) -> Table {
 fn small_walk(prng: &mut Prng, comparison: &mut Comparison) -> Result<(), Box<Difference>> {
     let events = 1 + prng.below(FEW_EVENTS);
     let table = table_with_outcome(prng, events);
-    walk(prng, &mut Calls { comparison, block: encode(&table) }, &table)
+    let bytes = any_test(prng, &table);
+    walk(prng, &mut Calls { comparison, bytes }, &table)
+}
+
+/// A walk over a table of more events than edition 1 has room for, whose harts are chains.
+fn chain_walk(prng: &mut Prng, comparison: &mut Comparison) -> Result<(), Box<Difference>> {
+    let table = chained_table(prng);
+    let bytes = any_test(prng, &table);
+    let mut calls = Calls { comparison, bytes };
+    single_search(prng, &mut calls, &table)?;
+    walk(prng, &mut calls, &table)
 }
 
 fn walk(prng: &mut Prng, calls: &mut Calls, table: &Table) -> Result<(), Box<Difference>> {
@@ -223,9 +253,9 @@ fn any_allowance(prng: &mut Prng, memory_events: usize, bound: usize) -> u64 {
 
 /// Searches of a table of any size, from clean prefixes and from others.
 fn large_searches(prng: &mut Prng, comparison: &mut Comparison) -> Result<(), Box<Difference>> {
-    let events = 1 + prng.below(MAX_EVENTS);
+    let events = 1 + prng.below(MOST_EVENTS);
     let table = table_with_outcome(prng, events);
-    let mut calls = Calls { comparison, block: encode(&table) };
+    let mut calls = Calls { comparison, bytes: any_test(prng, &table) };
     for _ in 0..SOME_CALLS {
         single_search(prng, &mut calls, &table)?;
     }
@@ -253,7 +283,7 @@ fn single_search(prng: &mut Prng, calls: &mut Calls, table: &Table) -> Result<()
 fn witnesses(prng: &mut Prng, comparison: &mut Comparison) -> Result<(), Box<Difference>> {
     let events = 1 + prng.below(FEW_EVENTS);
     let table = table_with_outcome(prng, events);
-    let mut calls = Calls { comparison, block: encode(&table) };
+    let mut calls = Calls { comparison, bytes: any_test(prng, &table) };
     for _ in 0..SOME_CALLS {
         let mut start = Vec::new();
         if prng.one_in(2) {
@@ -266,14 +296,14 @@ fn witnesses(prng: &mut Prng, comparison: &mut Comparison) -> Result<(), Box<Dif
     Ok(())
 }
 
-/// A table whose block is damaged in one place; lists are those of the whole table.
+/// A table whose test is damaged in one place; lists are those of the whole table.
 fn damaged_table(prng: &mut Prng, comparison: &mut Comparison) -> Result<(), Box<Difference>> {
     let table = any_shape(prng);
-    let block = damaged(prng, &table);
-    every_entry(prng, &mut Calls { comparison, block }, &table)
+    let bytes = damaged_in(any_edition(prng, &table), prng, &table);
+    every_entry(prng, &mut Calls { comparison, bytes }, &table)
 }
 
-/// Calls of every entry, with lists of a table that the block may or may not hold.
+/// Calls of every entry, with lists of a table that the bytes may or may not hold.
 fn every_entry(prng: &mut Prng, calls: &mut Calls, table: &Table) -> Result<(), Box<Difference>> {
     calls.call(Entry::Read)?;
     let order = any_order(prng, table);
@@ -281,20 +311,21 @@ fn every_entry(prng: &mut Prng, calls: &mut Calls, table: &Table) -> Result<(), 
     let memory_events = table.memory_events().len();
     let room = any_buffer_length(prng, memory_events);
     let start = bytes(&order[..prng.below(order.len() + 1)]);
-    // The block may hold another table than this one, with more prefixes.
-    let allowance = any_allowance(prng, MAX_EVENTS, 100);
+    // The bytes may hold another table than this one, with more prefixes.
+    let allowance = any_allowance(prng, MOST_EVENTS, 100);
     calls.search(prng, start.clone(), room, allowance)?;
     Ok(())
 }
 
 /// A table without a memory event.
 fn fences_only(prng: &mut Prng, comparison: &mut Comparison) -> Result<(), Box<Difference>> {
-    let block = encode(&any_fences(prng));
-    every_entry(prng, &mut Calls { comparison, block }, &litmus::c1())
+    let fences = any_fences(prng);
+    let bytes = any_test(prng, &fences);
+    every_entry(prng, &mut Calls { comparison, bytes }, &litmus::c1())
 }
 
 pub fn any_fences(prng: &mut Prng) -> Table {
-    litmus::table((0..1 + prng.below(MAX_EVENTS)).map(|_| any_fence(prng)).collect())
+    litmus::table((0..1 + prng.below(MOST_EVENTS)).map(|_| any_fence(prng)).collect())
 }
 
 fn any_fence(prng: &mut Prng) -> Event {
@@ -305,24 +336,31 @@ fn any_fence(prng: &mut Prng) -> Event {
     litmus::fence(hart, prng.below(usize::from(ALL_FLAGS) + 1) as u8)
 }
 
-/// Random bytes: of any length, in the form of a block, or a table's block cut short or made longer.
+/// Random bytes: of any length, in the form of a block, or a table's test cut short or made longer.
 fn random_bytes(prng: &mut Prng, comparison: &mut Comparison) -> Result<(), Box<Difference>> {
     let table = contended_table(prng);
-    let any_length = prng.below(LONGEST_BYTES);
-    let length = *prng.pick(&[0, 1, BLOCK_LENGTH - 1, BLOCK_LENGTH + 1, 2 * BLOCK_LENGTH, any_length]);
-    let block = match prng.below(3) {
+    let length = any_length(prng);
+    let bytes = match prng.below(3) {
         0 => some_bytes(prng, length),
         1 => {
             let form = prng.below(4);
             random_block(prng, form)
         }
         _ => {
-            let mut block = encode(&table).repeat(3);
-            block.truncate(length);
-            block
+            let mut bytes = any_test(prng, &table).repeat(4);
+            bytes.truncate(length);
+            bytes
         }
     };
-    every_entry(prng, &mut Calls { comparison, block }, &table)
+    every_entry(prng, &mut Calls { comparison, bytes }, &table)
+}
+
+/// About the lengths of tests, or any.
+fn any_length(prng: &mut Prng) -> usize {
+    let any = prng.below(LONGEST_BYTES);
+    let tests = [BLOCK_LENGTH, 2 * BLOCK_LENGTH, LONGEST_TEST];
+    let about = *prng.pick(&tests) + prng.below(3) - 1;
+    *prng.pick(&[0, 1, about, about, about, any])
 }
 
 /// How many blocks a suite of any length has, and where they stand: the first, the last or the next, and one whose offset no
@@ -331,14 +369,45 @@ fn suite(prng: &mut Prng, comparison: &mut Comparison) -> Result<(), Box<Differe
     let length = prng.below(LONGEST_SUITE);
     let edge = BLOCK_LENGTH * prng.below(LONGEST_SUITE / BLOCK_LENGTH);
     for length in [length, edge, edge + 1, (edge + BLOCK_LENGTH) - 1] {
-        let mut calls = Calls { comparison: &mut *comparison, block: some_bytes(prng, length) };
-        calls.call(Entry::Blocks)?;
+        let mut calls = Calls { comparison: &mut *comparison, bytes: some_bytes(prng, length) };
+        calls.call(Entry::Suite(OfSuite::Blocks))?;
         let whole = length / BLOCK_LENGTH;
         for k in [0, whole.saturating_sub(1), whole, usize::MAX / BLOCK_LENGTH + 1] {
-            calls.call(Entry::Part { k: k as u64 })?;
+            calls.call(Entry::Suite(OfSuite::Part { k: k as u64 }))?;
         }
     }
     Ok(())
+}
+
+/// A suite of tests of both editions, good ones and others, often cut: all its tests, and that at each block, the next ones and
+/// any other.
+fn mixed_suite(prng: &mut Prng, comparison: &mut Comparison) -> Result<(), Box<Difference>> {
+    let mut bytes = Vec::new();
+    for _ in 0..1 + prng.below(MOST_PARTS) {
+        bytes.extend(any_part(prng));
+    }
+    if prng.one_in(2) {
+        bytes.truncate(prng.below(bytes.len() + 1));
+    }
+    let blocks = bytes.len().div_ceil(BLOCK_LENGTH) as u64;
+    let mut calls = Calls { comparison, bytes };
+    calls.call(Entry::Suite(OfSuite::Tests))?;
+    for k in (0..blocks + 2).chain([u64::MAX / BLOCK_LENGTH as u64 + 1, prng.bits()]) {
+        calls.call(Entry::Suite(OfSuite::Test { k }))?;
+    }
+    Ok(())
+}
+
+/// A test, mostly good, its first block alone, or any bytes.
+fn any_part(prng: &mut Prng) -> Vec<u8> {
+    let table = any_shape(prng);
+    let edition = any_edition(prng, &table);
+    match prng.below(8) {
+        0..=3 => encode_in(edition, &table),
+        4 | 5 => damaged_in(edition, prng, &table),
+        6 => encode_in(edition, &table)[..BLOCK_LENGTH].to_vec(),
+        _ => some_bytes(prng, BLOCK_LENGTH),
+    }
 }
 
 #[cfg(test)]
@@ -374,7 +443,7 @@ mod tests {
         let mut prng = Prng::new(2);
         for _ in 0..TABLES {
             let table = any_shape(&mut prng);
-            assert_eq!(read(&encode(&table)), Ok(table));
+            assert_eq!(read(&any_test(&mut prng, &table)), Ok(table));
         }
     }
 }

@@ -48,13 +48,13 @@ impl fmt::Display for Difference {
 #[cfg(test)]
 mod tests {
     use super::*;
-    use crate::call::{Entry, Library, Reference, Reply};
+    use crate::call::{Entry, Library, OfSuite, Reference, Reply};
     use crate::cases::round;
     use crate::lent::Room;
     use cogthunder::{Answer, Axiom, Rules};
-    use oracle::encode::encode;
+    use oracle::encode::{encode, seal};
     use oracle::generate::prng::Prng;
-    use oracle::layout::{CHECK_AT, EVENTS_AT};
+    use oracle::layout::{BLOCK_LENGTH, CHECK_AT, EVENTS_AT, LONGEST_TEST};
     use oracle::litmus;
 
     /// Calls enough to meet the faults below.
@@ -92,7 +92,7 @@ mod tests {
                 }
             }
         });
-        assert_eq!(found.call.block[EVENTS_AT], 3);
+        assert_eq!(found.call.bytes[EVENTS_AT], 3);
         let rules = Rules::from_iter([4]);
         assert_eq!(found.reference.reply, Reply::Broken(Axiom::PreservedOrder { a: 0, b: 2, rules }));
     }
@@ -104,7 +104,7 @@ mod tests {
                 *rules = rules.iter().filter(|&rule| rule != 3).collect();
             }
         });
-        assert_eq!(found.call.block[EVENTS_AT], 2);
+        assert_eq!(found.call.bytes[EVENTS_AT], 2);
         assert!(matches!(found.call.entry, Entry::Rules { a: 0, b: 1, .. }));
         assert!(matches!(found.reference.reply, Reply::Rules(rules) if rules.contains(3)));
     }
@@ -116,7 +116,7 @@ mod tests {
                 *visited += 1;
             }
         });
-        assert_eq!(found.call.block[EVENTS_AT], 1);
+        assert_eq!(found.call.bytes[EVENTS_AT], 1);
         assert_eq!(found.reference.reply, Reply::Searched(Answer::Spent { len: 0, visited: 0 }));
     }
 
@@ -129,7 +129,7 @@ mod tests {
                 *last ^= 1;
             }
         });
-        assert_eq!(found.call.block[EVENTS_AT], 1);
+        assert_eq!(found.call.bytes[EVENTS_AT], 1);
     }
 
     #[test]
@@ -145,13 +145,39 @@ mod tests {
     }
 
     #[test]
-    fn an_altered_argument_is_a_difference() {
+    fn a_walk_that_passes_over_a_block_is_shown_by_one_block() {
         let found = difference(|call, outcome| {
-            if call.entry == Entry::Blocks {
-                outcome.altered.push("the block");
+            if let (Entry::Suite(OfSuite::Test { .. }), Reply::Test { length: 1.., next }) =
+                (&call.entry, &mut outcome.reply)
+            {
+                *next += 1;
             }
         });
-        assert!(found.call.block.is_empty());
+        assert_eq!(found.call.entry, Entry::Suite(OfSuite::Test { k: 0 }));
+        assert_eq!(found.reference.reply, Reply::Test { length: 1, next: 1 });
+    }
+
+    #[test]
+    fn a_later_blocks_check_that_is_not_tested_is_seen() {
+        let found = difference(|call, outcome| {
+            let mut bytes = call.bytes.clone();
+            if call.entry == Entry::Read && bytes.len() == LONGEST_TEST {
+                seal(&mut bytes[BLOCK_LENGTH..]);
+                *outcome = Reference.outcome(&Call { bytes, entry: Entry::Read });
+            }
+        });
+        assert_eq!(found.reference.reply, Reply::Refused { number: 2, record: None });
+        assert_ne!(found.library.reply, found.reference.reply);
+    }
+
+    #[test]
+    fn an_altered_argument_is_a_difference() {
+        let found = difference(|call, outcome| {
+            if call.entry == Entry::Suite(OfSuite::Blocks) {
+                outcome.altered.push("the suite");
+            }
+        });
+        assert!(found.call.bytes.is_empty());
     }
 
     #[test]

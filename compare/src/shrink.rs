@@ -1,10 +1,11 @@
 //! Makes a call smaller while a property of it stays.
 
-use crate::call::{Call, Entry};
+use crate::call::{Call, Entry, OfSuite};
 use oracle::candidate::{INITIAL, NON_READER};
 use oracle::encode::seal;
 use oracle::layout::*;
-use oracle::raw::{RawEvent, RawTable};
+use oracle::raw::RawTable;
+use oracle::record::RawEvent;
 use oracle::stream::Stream;
 
 /// Takes smaller calls as long as one has the property. Each has fewer events, shorter lists, a smaller number or a
@@ -20,36 +21,40 @@ pub fn shrink(mut call: Call, mut has_property: impl FnMut(&Call) -> bool) -> Ca
 }
 
 fn smaller_calls(call: &Call) -> impl Iterator<Item = Call> + '_ {
-    let events = events(&call.block).unwrap_or(0);
-    let without_events = (0..events).filter(move |_| events > 1).map(|k| without_event(call, k));
+    let (edition, events) = records(&call.bytes).unwrap_or((Edition::One, 0));
+    let without_events = (0..events).filter(move |_| events > 1).map(move |k| without_event(edition, call, k));
     let entries = smaller_entries(&call.entry).into_iter().map(|entry| Call { entry, ..call.clone() });
-    let blocks = smaller_blocks(&call.block).map(|block| Call { block, ..call.clone() });
-    without_events.chain(entries).chain(blocks)
+    let tests = smaller_tests(&call.bytes).map(|bytes| Call { bytes, ..call.clone() });
+    without_events.chain(entries).chain(tests)
 }
 
-/// How many records a block has, if its length and the number are in range.
-fn events(block: &[u8]) -> Option<usize> {
-    let is_block = block.len() == BLOCK_LENGTH;
-    is_block.then(|| usize::from(block[EVENTS_AT])).filter(|&count| count <= MAX_EVENTS)
+/// The edition that has tests of this length.
+fn edition_of(bytes: &[u8]) -> Option<Edition> {
+    Edition::ALL.into_iter().find(|edition| edition.test_length() == bytes.len())
 }
 
-fn has_good_check(block: &[u8]) -> bool {
-    block.len() == BLOCK_LENGTH && stored_check(block) == check(block)
+/// How many records a test has, if its length and the number are in range.
+fn records(test: &[u8]) -> Option<(Edition, usize)> {
+    let edition = edition_of(test)?;
+    let count = usize::from(test[EVENTS_AT]);
+    (count <= edition.max_events()).then_some((edition, count))
 }
 
-/// A change of a block; a check that was good is made good again.
-fn changed(block: &[u8], change: impl FnOnce(&mut [u8])) -> Vec<u8> {
-    let mut changed = block.to_vec();
+/// A change of some bytes; each check that was good is made good again.
+fn changed(bytes: &[u8], change: impl FnOnce(&mut [u8])) -> Vec<u8> {
+    let mut changed = bytes.to_vec();
     change(&mut changed);
-    if has_good_check(block) {
-        seal(&mut changed);
+    for (before, block) in bytes.chunks_exact(BLOCK_LENGTH).zip(changed.chunks_exact_mut(BLOCK_LENGTH)) {
+        if is_sealed(before) {
+            seal(block);
+        }
     }
     changed
 }
 
 /// The number of an event once event k is gone.
 fn renumbered(event: u64, k: usize) -> u64 {
-    if event > k as u64 && event < MAX_EVENTS as u64 {
+    if event > k as u64 && event < MOST_EVENTS as u64 {
         event - 1
     } else {
         event
@@ -60,15 +65,15 @@ fn renumbered_byte(event: u8, k: usize) -> u8 {
     renumbered(event.into(), k) as u8
 }
 
-fn without_event(call: &Call, k: usize) -> Call {
-    let block = changed(&call.block, |block| {
-        block.copy_within(record_at(k + 1)..record_at(MAX_EVENTS), record_at(k));
-        block[record_at(MAX_EVENTS - 1)..record_at(MAX_EVENTS)].fill(0);
-        block[EVENTS_AT] -= 1;
-        for record in 0..MAX_EVENTS {
-            for mask in [field::ADDRESS, field::DATA, field::CONTROL] {
-                drop_bit(block, record_at(record) + mask, k);
-            }
+fn without_event(edition: Edition, call: &Call, k: usize) -> Call {
+    let bytes = changed(&call.bytes, |test| {
+        for record in k + 1..edition.max_events() {
+            test.copy_within(edition.record(record), edition.record(record - 1).start);
+        }
+        test[edition.record(edition.max_events() - 1)].fill(0);
+        test[EVENTS_AT] -= 1;
+        for record in 0..edition.max_events() {
+            drop_bits(edition, &mut test[edition.record(record)], k);
         }
     });
     let list = |list: &[u8]| -> Vec<u8> {
@@ -84,17 +89,25 @@ fn without_event(call: &Call, k: usize) -> Call {
         Entry::Returns { order, out } => Entry::Returns { order: list(&order), out },
         Entry::Search { start, out, allowance } => Entry::Search { start: list(&start), out, allowance },
         Entry::Witnesses { start, allowance, steps } => Entry::Witnesses { start: list(&start), allowance, steps },
-        entry @ (Entry::Read | Entry::Write { .. } | Entry::Blocks | Entry::Part { .. }) => entry,
+        entry @ (Entry::Read | Entry::Write { .. } | Entry::Suite(_)) => entry,
     };
-    Call { block, entry }
+    Call { bytes, entry }
 }
 
-/// Takes bit k out of a mask; higher bits move down.
-fn drop_bit(block: &mut [u8], at: usize, k: usize) {
-    let mask = word(block, at);
+/// Takes bit k out of each mask of a record.
+fn drop_bits(edition: Edition, record: &mut [u8], k: usize) {
+    let mut event = RawEvent::of_record(edition, record);
+    for mask in [&mut event.address, &mut event.data, &mut event.control] {
+        *mask = without_bit(*mask, k);
+    }
+    event.put(edition, record);
+}
+
+/// Higher bits move down.
+fn without_bit(mask: u32, k: usize) -> u32 {
     let low = mask & ((1 << k) - 1);
     let high = mask.checked_shr(k as u32 + 1).unwrap_or(0) << k;
-    block[at..at + VALUE_LENGTH].copy_from_slice(&(low | high).to_le_bytes());
+    low | high
 }
 
 /// The entry of event k is gone, and a reader that returned from it returns the initial value.
@@ -120,8 +133,8 @@ fn smaller_numbers(number: u64) -> impl Iterator<Item = u64> {
 fn smaller_entries(entry: &Entry) -> Vec<Entry> {
     let mut entries = Vec::new();
     match entry {
-        Entry::Read | Entry::Blocks => {}
-        Entry::Part { k } => entries.extend(smaller_numbers(*k).map(|k| Entry::Part { k })),
+        Entry::Read => {}
+        Entry::Suite(asked) => entries.extend(smaller_asked(asked).into_iter().map(Entry::Suite)),
         Entry::Write { table, out } => {
             let with = |table, out: &[u8]| Entry::Write { table: Box::new(table), out: out.to_vec() };
             entries.extend(smaller_tables(table).into_iter().map(|table| with(table, out)));
@@ -141,16 +154,7 @@ fn smaller_entries(entry: &Entry) -> Vec<Entry> {
             entries.extend(shorter(order).map(|order| Entry::Returns { order, out: out.clone() }));
             entries.extend(shorter(out).map(|out| Entry::Returns { order: order.clone(), out }));
         }
-        Entry::Search { start, out, allowance } => {
-            let with = |start: &[u8], out: &[u8], allowance| Entry::Search {
-                start: start.to_vec(),
-                out: out.to_vec(),
-                allowance,
-            };
-            entries.extend(shorter(start).map(|start| with(&start, out, *allowance)));
-            entries.extend(shorter(out).map(|out| with(start, &out, *allowance)));
-            entries.extend(smaller_numbers(*allowance).map(|allowance| with(start, out, allowance)));
-        }
+        Entry::Search { start, out, allowance } => entries.extend(smaller_searches(start, out, *allowance)),
         Entry::Witnesses { start, allowance, steps } => {
             let with = |start: &[u8], allowance, steps| Entry::Witnesses { start: start.to_vec(), allowance, steps };
             entries.extend(shorter(start).map(|start| with(&start, *allowance, *steps)));
@@ -159,6 +163,25 @@ fn smaller_entries(entry: &Entry) -> Vec<Entry> {
         }
     }
     entries
+}
+
+fn smaller_asked(asked: &OfSuite) -> Vec<OfSuite> {
+    match *asked {
+        OfSuite::Blocks | OfSuite::Tests => Vec::new(),
+        OfSuite::Part { k } => smaller_numbers(k).map(|k| OfSuite::Part { k }).collect(),
+        OfSuite::Test { k } => smaller_numbers(k).map(|k| OfSuite::Test { k }).collect(),
+    }
+}
+
+fn smaller_searches(start: &[u8], out: &[u8], allowance: u64) -> Vec<Entry> {
+    let with = |start: &[u8], out: &[u8], allowance| {
+        let (start, out) = (start.to_vec(), out.to_vec());
+        Entry::Search { start, out, allowance }
+    };
+    let starts = shorter(start).map(|start| with(&start, out, allowance));
+    let buffers = shorter(out).map(|out| with(start, &out, allowance));
+    let allowances = smaller_numbers(allowance).map(|allowance| with(start, out, allowance));
+    starts.into_iter().chain(buffers).chain(allowances).collect()
 }
 
 /// A table without its last event.
@@ -187,13 +210,16 @@ fn smaller_bytes(bytes: &[u8]) -> impl Iterator<Item = (usize, u8)> + '_ {
     others.flat_map(|(at, &byte)| [(at, 0), (at, byte / 2), (at, byte - 1)])
 }
 
-/// Blocks with one byte made smaller, and, of other bytes than a block, the first half of them and all but the last.
-fn smaller_blocks(block: &[u8]) -> impl Iterator<Item = Vec<u8>> + '_ {
-    let end = if block.len() == BLOCK_LENGTH { CHECK_AT } else { block.len() };
-    let changes = smaller_bytes(&block[..end]);
-    let lengths = [block.len() / 2, block.len().saturating_sub(1)];
-    let shorter = lengths.into_iter().filter(|&length| block.len() != BLOCK_LENGTH && length < block.len());
-    shorter
-        .map(|length| block[..length].to_vec())
-        .chain(changes.map(|(at, value)| changed(block, |block| block[at] = value)))
+/// Tests with one byte made smaller, but for their checks; and, of other bytes than a test, the first half of them, all but the
+/// first block, and all but the last byte.
+fn smaller_tests(bytes: &[u8]) -> impl Iterator<Item = Vec<u8>> + '_ {
+    let is_test = edition_of(bytes).is_some();
+    let is_check = move |at: usize| is_test && at % BLOCK_LENGTH >= CHECK_AT;
+    let changes = smaller_bytes(bytes).filter(move |&(at, _)| !is_check(at));
+    let half = &bytes[..bytes.len() / 2];
+    let past_first = bytes.get(BLOCK_LENGTH..).unwrap_or(bytes);
+    let all_but_last = &bytes[..bytes.len().saturating_sub(1)];
+    let parts = [half, past_first, all_but_last].into_iter();
+    let shorter = parts.filter(move |part| !is_test && part.len() < bytes.len());
+    shorter.map(<[u8]>::to_vec).chain(changes.map(|(at, value)| changed(bytes, |bytes| bytes[at] = value)))
 }

@@ -2,6 +2,7 @@
 
 use crate::call::{Call, Entry, Outcome, Reply};
 use cogthunder::{Answer, Axiom, Rules};
+use oracle::layout::LONGEST_TEST;
 use std::collections::BTreeMap;
 use std::fmt;
 
@@ -23,6 +24,8 @@ pub struct Tally {
     /// In how many sets each rule was: of verdicts, and of pairs.
     rules: BTreeMap<u8, u64>,
     searches: BTreeMap<&'static str, u64>,
+    /// Good tests of edition 2.
+    good_in_two: u64,
     written: u64,
     not_written: BTreeMap<u8, u64>,
 }
@@ -69,7 +72,8 @@ impl Tally {
             Reply::Rules(rules) => self.count_rules(*rules),
             Reply::Good if call.entry.name() == "verdict" => *self.verdicts.entry(VERDICTS[0]).or_default() += 1,
             Reply::Searched(answer) => *self.searches.entry(search_name(answer)).or_default() += 1,
-            Reply::Good | Reply::Table(_) | Reply::Blocks(_) | Reply::Part(_) | Reply::Witnesses { .. } => {}
+            Reply::Table(_) if call.bytes.len() == LONGEST_TEST => self.good_in_two += 1,
+            _ => {}
         }
     }
 
@@ -89,7 +93,8 @@ impl Tally {
         let not_written = TABLE_REFUSALS.iter().filter(|&n| !self.not_written.contains_key(n));
         let not_written = not_written.map(|n| format!("refusal {n} of a table"));
         let written = (self.written == 0).then(|| "a table that is written".to_string());
-        refusals.chain(rules).chain(verdicts).chain(searches).chain(not_written).chain(written).collect()
+        let in_two = (self.good_in_two == 0).then(|| "a good test of edition 2".to_string());
+        refusals.chain(rules).chain(verdicts).chain(searches).chain(not_written).chain(written).chain(in_two).collect()
     }
 }
 
@@ -100,6 +105,7 @@ fn listed<K: fmt::Display>(counts: &BTreeMap<K, u64>) -> String {
 impl fmt::Display for Tally {
     fn fmt(&self, f: &mut fmt::Formatter) -> fmt::Result {
         writeln!(f, "  calls    {}", listed(&self.entries))?;
+        writeln!(f, "  read     good tests of edition 2: {}", self.good_in_two)?;
         writeln!(f, "  refusals {}", listed(&self.refusals))?;
         writeln!(f, "  verdicts {}", listed(&self.verdicts))?;
         writeln!(f, "  rules    {}", listed(&self.rules))?;

@@ -4,17 +4,17 @@
 use crate::call::{Call, Entry, Outcome, Reply};
 use crate::cases::{any_fences, any_shape, some_bytes, LONGEST_BYTES, SOME_CALLS};
 use crate::comparison::{Comparison, Difference};
-use oracle::encode::encode;
 use oracle::generate::prng::Prng;
 use oracle::layout::*;
 use oracle::operation::Operation;
-use oracle::raw::{RawEvent, RawTable, SLOTS};
+use oracle::raw::{RawTable, SLOTS};
+use oracle::record::RawEvent;
 use oracle::table::Kind;
 
 /// Writes one table, mostly damaged, to some buffers. What was written is read.
 pub fn writes(prng: &mut Prng, comparison: &mut Comparison) -> Result<(), Box<Difference>> {
     let table = if prng.one_in(20) { any_fences(prng) } else { any_shape(prng) };
-    let table = RawTable::of_block(&encode(&table));
+    let table = RawTable::from(&table);
     for _ in 0..SOME_CALLS {
         let mut table = table.clone();
         if !prng.one_in(3) {
@@ -23,9 +23,9 @@ pub fn writes(prng: &mut Prng, comparison: &mut Comparison) -> Result<(), Box<Di
         let length = any_length(prng);
         let out = some_bytes(prng, length);
         let entry = Entry::Write { table: Box::new(table), out };
-        let Outcome { reply, out, .. } = comparison.call(Call { block: Vec::new(), entry })?;
+        let Outcome { reply, out, .. } = comparison.call(Call { bytes: Vec::new(), entry })?;
         if reply == Reply::Good {
-            comparison.call(Call { block: out, entry: Entry::Read })?;
+            comparison.call(Call { bytes: out, entry: Entry::Read })?;
         }
     }
     Ok(())
@@ -98,7 +98,7 @@ fn any_byte(prng: &mut Prng) -> u8 {
     if prng.one_in(4) {
         return prng.bits() as u8;
     }
-    prng.below(MAX_EVENTS + 1) as u8
+    prng.below(one::MAX_EVENTS + 1) as u8
 }
 
 fn any_value(prng: &mut Prng) -> u16 {
@@ -117,7 +117,8 @@ fn any_mask(prng: &mut Prng) -> u32 {
 mod tests {
     use super::*;
     use cogthunder::{Accesses, Annotation};
-    use oracle::generate::random::any_table;
+    use oracle::encode::{encode, encode_fitting};
+    use oracle::generate::random::{any_table, wide_table};
     use oracle::table::{names, names_location, Event, Table};
 
     const TABLES: usize = 5000;
@@ -162,13 +163,13 @@ mod tests {
     }
 
     fn say(built: &mut cogthunder::Table, number: u8, event: &Event) {
-        for on in (0..MAX_EVENTS).filter(|&on| names(event.address, on)) {
+        for on in (0..MOST_EVENTS).filter(|&on| names(event.address, on)) {
             built.address_dependency(number, on as u8);
         }
-        for on in (0..MAX_EVENTS).filter(|&on| names(event.data, on)) {
+        for on in (0..MOST_EVENTS).filter(|&on| names(event.data, on)) {
             built.data_dependency(number, on as u8);
         }
-        for on in (0..MAX_EVENTS).filter(|&on| names(event.control, on)) {
+        for on in (0..MOST_EVENTS).filter(|&on| names(event.control, on)) {
             built.control_dependency(number, on as u8);
         }
         let annotations = (0..).zip(ANNOTATIONS).filter(|&(bit, _)| event.is_memory() && event.flags >> bit & 1 == 1);
@@ -199,6 +200,16 @@ mod tests {
             let table = any_table(&mut prng);
             let block = built(&table).block().expect("the table is good");
             assert_eq!(block, encode(&table)[..]);
+        }
+    }
+
+    #[test]
+    fn tables_of_more_events_have_the_tests_of_the_independent_program() {
+        let mut prng = Prng::new(4);
+        for _ in 0..TABLES {
+            let table = wide_table(&mut prng);
+            let test = built(&table).test().expect("the table is good");
+            assert_eq!(test, encode_fitting(&table));
         }
     }
 }

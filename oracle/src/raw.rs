@@ -3,29 +3,12 @@
 
 use crate::encode::encode;
 use crate::layout::*;
-use crate::operation::Operation;
+use crate::record::RawEvent;
 use crate::stream::{Malformed, Stream};
-use crate::table::{
-    fields_broken, names_location, refuse_if, refuse_table, Event, Kind, Line, Refusal, Table,
-};
+use crate::table::{fields_broken, names_location, refuse_if, refuse_table, Line, Refusal, Table};
 
 /// How many events such a table has room for.
 pub const SLOTS: usize = 32;
-
-#[derive(Clone, Copy, Default, PartialEq, Eq, Debug)]
-pub struct RawEvent {
-    pub kind: u8,
-    pub hart: u8,
-    pub location: u8,
-    pub flags: u8,
-    pub address: u32,
-    pub data: u32,
-    pub control: u32,
-    pub read: u16,
-    pub written: u16,
-    pub operation: u8,
-    pub operand: u8,
-}
 
 #[derive(Clone, PartialEq, Eq, Debug)]
 pub struct RawTable {
@@ -39,22 +22,27 @@ pub struct RawTable {
 }
 
 impl RawTable {
-    /// The fields of a block of 512 bytes, whatever they are.
-    pub fn of_block(block: &[u8]) -> RawTable {
-        let values = |at: fn(usize) -> usize| std::array::from_fn(|l| word(block, at(l)));
+    /// The fields of a test that is as long as those of an edition, whatever they are.
+    pub fn of_test(edition: Edition, test: &[u8]) -> RawTable {
+        let values = |at: fn(usize) -> usize| std::array::from_fn(|l| word(test, at(l)));
         let mut events = [RawEvent::default(); SLOTS];
-        for (number, event) in events[..MAX_EVENTS].iter_mut().enumerate() {
-            *event = RawEvent::of_record(&block[record_at(number)..record_at(number + 1)]);
+        for (number, event) in events[..edition.max_events()].iter_mut().enumerate() {
+            *event = RawEvent::of_record(edition, &test[edition.record(number)]);
         }
         RawTable {
-            harts: block[HARTS_AT],
-            locations: block[LOCATIONS_AT],
-            count: block[EVENTS_AT],
-            stated: block[STATED_AT],
+            harts: test[HARTS_AT],
+            locations: test[LOCATIONS_AT],
+            count: test[EVENTS_AT],
+            stated: test[STATED_AT],
             initial: values(initial_at),
             events,
             finals: values(final_at),
         }
+    }
+
+    /// The fields of a block of edition 1.
+    pub fn of_block(block: &[u8]) -> RawTable {
+        RawTable::of_test(Edition::One, block)
     }
 
     /// The fields in their order, without the padding that a struct of C has.
@@ -85,23 +73,25 @@ impl RawTable {
     }
 }
 
-impl RawEvent {
-    fn of_record(record: &[u8]) -> RawEvent {
-        RawEvent {
-            kind: record[field::KIND],
-            hart: record[field::HART],
-            location: record[field::LOCATION],
-            flags: record[field::FLAGS],
-            address: word(record, field::ADDRESS).into(),
-            data: word(record, field::DATA).into(),
-            control: word(record, field::CONTROL).into(),
-            read: word(record, field::READ),
-            written: word(record, field::WRITTEN),
-            operation: record[field::OPERATION],
-            operand: record[field::OPERAND],
+impl From<&Table> for RawTable {
+    fn from(table: &Table) -> RawTable {
+        let mut events = [RawEvent::default(); SLOTS];
+        for (raw, event) in events.iter_mut().zip(&table.events) {
+            *raw = event.into();
+        }
+        RawTable {
+            harts: table.harts as u8,
+            locations: table.locations as u8,
+            count: table.events.len() as u8,
+            stated: table.stated,
+            initial: table.initial,
+            events,
+            finals: table.finals,
         }
     }
+}
 
+impl RawEvent {
     fn take_from(stream: &mut Stream) -> Result<RawEvent, Malformed> {
         Ok(RawEvent {
             kind: stream.byte()?,
@@ -117,23 +107,6 @@ impl RawEvent {
             operand: stream.byte()?,
         })
     }
-
-    /// The event, or none if its kind or its operation is out of range.
-    fn typed(&self) -> Option<Event> {
-        Some(Event {
-            kind: Kind::from_number(self.kind)?,
-            hart: self.hart.into(),
-            location: self.location.into(),
-            flags: self.flags,
-            address: self.address,
-            data: self.data,
-            control: self.control,
-            read: self.read,
-            written: self.written,
-            operation: Operation::from_number(self.operation)?,
-            operand: self.operand,
-        })
-    }
 }
 
 fn take_values(stream: &mut Stream) -> Result<[u16; MAX_LOCATIONS], Malformed> {
@@ -146,7 +119,7 @@ fn take_values(stream: &mut Stream) -> Result<[u16; MAX_LOCATIONS], Malformed> {
 
 /// "from a table, the 512 bytes into a lent buffer. .. A table that reading would refuse by 5
 /// to 11 is refused by the same number; a buffer that isn't 512 bytes by 1; refusals leave the
-/// buffer alone."
+/// buffer alone." "The writer writes edition 1 only (more than 16 events is 5)".
 pub fn write(raw: &RawTable, buffer: &mut [u8]) -> Result<(), Refusal> {
     refuse_if(buffer.len() != BLOCK_LENGTH, Line::Length)?;
     refuse_if(ranges_broken(raw), Line::Ranges)?;
@@ -163,7 +136,7 @@ fn ranges_broken(raw: &RawTable) -> bool {
     let in_range = |number: u8, most: usize| (1..=most).contains(&number.into());
     !in_range(raw.harts, MAX_HARTS)
         || !in_range(raw.locations, MAX_LOCATIONS)
-        || !in_range(raw.count, MAX_EVENTS)
+        || !in_range(raw.count, Edition::One.max_events())
         || (raw.locations.into()..MAX_LOCATIONS).any(|l| names_location(raw.stated, l))
 }
 

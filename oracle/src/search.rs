@@ -141,12 +141,12 @@ impl<'a> Search<'a> {
 mod tests {
     use super::*;
     use crate::encode::encode;
-    use crate::layout::MAX_EVENTS;
+    use crate::layout::MOST_EVENTS;
     use crate::litmus::*;
     use crate::table::{RELEASE_RCPC, RELEASE_RCSC};
 
     fn run(test: &Table, start: &[u8], allowance: u64) -> Answer {
-        let mut buffer = [0; MAX_EVENTS];
+        let mut buffer = [0; MOST_EVENTS];
         search(&encode(test), start, &mut buffer, allowance).expect("no line refuses")
     }
 
@@ -279,9 +279,9 @@ mod tests {
     #[test]
     fn the_lowest_line_refuses_a_search() {
         let refusal = |start: &[u8], length: usize, allowance: u64| {
-            let mut buffer = [7; MAX_EVENTS];
+            let mut buffer = [7; MOST_EVENTS];
             let answer = search(&encode(&c2()), start, &mut buffer[..length], allowance);
-            assert_eq!(buffer, [7; MAX_EVENTS]);
+            assert_eq!(buffer, [7; MOST_EVENTS]);
             answer.unwrap_err().line
         };
         let too_much = MAX_ALLOWANCE + 1;

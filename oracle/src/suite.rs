@@ -1,22 +1,57 @@
-//! The command `suite`: the paper's suite program.
+//! The tests of a suite, and the command `suite`: the paper's suite program.
 
-use crate::layout::{BLOCK_LENGTH, MAX_EVENTS};
+use crate::layout::{Edition, BLOCK_LENGTH, MOST_EVENTS};
 use crate::readings::spaced;
 use crate::search::{search, Answer};
+use crate::table::{read, stated_edition};
 
 /// "allowance 1,000,000 from the empty start"
 const ALLOWANCE: u64 = 1_000_000;
 
-/// "A suite is any number of blocks"; a last part block counts.
-pub fn print_suite(suite: &[u8]) -> String {
-    let blocks = suite.chunks(BLOCK_LENGTH);
-    let count = blocks.len();
-    let lines = blocks.enumerate().map(|(k, block)| format!("block {k}: {}\n", outcome(block)));
-    lines.collect::<String>() + &format!("{count} blocks\n")
+/// What is left of a suite from block k on; nothing where k isn't in it.
+fn from_block(suite: &[u8], k: usize) -> &[u8] {
+    k.checked_mul(BLOCK_LENGTH).and_then(|at| suite.get(at..)).unwrap_or_default()
 }
 
-fn outcome(block: &[u8]) -> String {
-    match search(block, &[], &mut [0; MAX_EVENTS], ALLOWANCE) {
+/// "at block k the test is three blocks if block k by itself passes 2 and 3 and has edition 2, else
+/// one"; a test that is cut is what is left.
+pub fn test_at(suite: &[u8], k: usize) -> &[u8] {
+    let rest = from_block(suite, k);
+    let edition = match stated_edition(rest) {
+        Ok(Edition::Two) => Edition::Two,
+        _ => Edition::One,
+    };
+    &rest[..rest.len().min(edition.test_length())]
+}
+
+/// The block where the test after that at block k begins: "A suite walk moves three blocks after a
+/// good edition 2 test, one after any refusal". It is k itself where k isn't in the suite.
+pub fn next_block(suite: &[u8], k: usize) -> usize {
+    let test = test_at(suite, k);
+    match read(test) {
+        _ if test.is_empty() => k,
+        Ok(_) => k + test.len() / BLOCK_LENGTH,
+        Err(_) => k + 1,
+    }
+}
+
+/// The first block of each test, and the test.
+pub fn tests(suite: &[u8]) -> impl Iterator<Item = (usize, &[u8])> {
+    let is_in_suite = |k: &usize| !from_block(suite, *k).is_empty();
+    let following = move |k: &usize| Some(next_block(suite, *k)).filter(is_in_suite);
+    std::iter::successors(Some(0).filter(is_in_suite), following).map(|k| (k, test_at(suite, k)))
+}
+
+/// "A line shows the number of its test's first block", and the last line "counts tests and
+/// refusals .. as blocks today".
+pub fn print_suite(suite: &[u8]) -> String {
+    let lines = tests(suite).map(|(k, test)| format!("block {k}: {}\n", outcome(test)));
+    let lines: Vec<String> = lines.collect();
+    lines.concat() + &format!("{} blocks\n", lines.len())
+}
+
+fn outcome(test: &[u8]) -> String {
+    match search(test, &[], &mut [0; MOST_EVENTS], ALLOWANCE) {
         Err(refusal) => format!("refused {}", refusal.line as u8),
         Ok(Answer::Found { visited, order }) => {
             format!("allowed, {visited} visited, order {}", spaced(&order))

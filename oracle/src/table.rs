@@ -1,7 +1,8 @@
-//! A test read from a block, and the lines 1 to 11 by which reading refuses one.
+//! A test read from its bytes, and the lines 1 to 11 by which reading refuses them.
 
 use crate::layout::*;
 use crate::operation::Operation;
+use crate::record::RawEvent;
 use std::fmt;
 
 /// "Kinds: 1 load, 2 store, 3 AMO, 4 LR, 5 SC, 6 fence, 7 fence.tso."
@@ -42,7 +43,8 @@ pub const SW: u8 = 8;
 /// The largest flags, for memory events and fences alike.
 pub const ALL_FLAGS: u8 = 15;
 
-/// A block's masks have two bytes; those of a table that is to be written have four.
+/// The masks of edition 1 have two bytes; those of edition 2, and of a table that is to be written,
+/// four.
 #[derive(Clone, PartialEq, Eq, Debug)]
 pub struct Event {
     pub kind: Kind,
@@ -191,17 +193,27 @@ fn refuse_records(
     }
 }
 
-/// "Exactly the lowest number whose line holds is given, or else none"
-pub fn read(block: &[u8]) -> Result<Table, Refusal> {
-    refuse_if(block.len() != BLOCK_LENGTH, Line::Length)?;
-    refuse_if(stored_check(block) != check(block), Line::Check)?;
-    refuse_if(!block.starts_with(&MARKER), Line::Marker)?;
-    refuse_if(block[EDITION_AT] != EDITION, Line::Edition)?;
-    refuse_if(ranges_broken(block), Line::Ranges)?;
-    refuse_if(zeros_broken(block), Line::Zeros)?;
-    let table = decode(block)?;
+/// "Where the first 512 bytes are short or fail 2, 3 or 4, that is the answer; otherwise length is
+/// checked by edition before the later blocks." Then 5 to 11, of which "exactly the lowest number
+/// whose line holds is given".
+pub fn read(test: &[u8]) -> Result<Table, Refusal> {
+    let edition = stated_edition(test)?;
+    refuse_if(test.len() != edition.test_length(), Line::Length)?;
+    refuse_if(!test.chunks(BLOCK_LENGTH).all(is_sealed), Line::Check)?;
+    refuse_if(ranges_broken(edition, test), Line::Ranges)?;
+    refuse_if(zero_bytes(edition, test).any(|at| test[at] != 0), Line::Zeros)?;
+    let table = decode(edition, test)?;
     refuse_table(&table)?;
     Ok(table)
+}
+
+/// The edition of a test whose first 512 bytes are neither short nor fail 2, 3 or 4.
+pub fn stated_edition(test: &[u8]) -> Result<Edition, Refusal> {
+    refuse_if(test.len() < BLOCK_LENGTH, Line::Length)?;
+    refuse_if(!is_sealed(test), Line::Check)?;
+    refuse_if(!test.starts_with(&MARKER), Line::Marker)?;
+    let edition = Edition::from_number(test[EDITION_AT]);
+    edition.ok_or(Refusal { line: Line::Edition, record: None })
 }
 
 /// Lines 8 to 11.
@@ -214,64 +226,61 @@ pub fn refuse_table(table: &Table) -> Result<(), Refusal> {
 
 /// 5: "harts, locations or events out of range, or the final mask names a location not in
 /// the test"
-fn ranges_broken(block: &[u8]) -> bool {
-    let (harts, locations, events) = counts(block);
+fn ranges_broken(edition: Edition, test: &[u8]) -> bool {
+    let (harts, locations, events) = counts(test);
     !(1..=MAX_HARTS).contains(&harts)
         || !(1..=MAX_LOCATIONS).contains(&locations)
-        || !(1..=MAX_EVENTS).contains(&events)
-        || (locations..MAX_LOCATIONS).any(|l| names_location(block[STATED_AT], l))
+        || !(1..=edition.max_events()).contains(&events)
+        || (locations..MAX_LOCATIONS).any(|l| names_location(test[STATED_AT], l))
 }
 
-fn counts(block: &[u8]) -> (usize, usize, usize) {
-    (block[HARTS_AT].into(), block[LOCATIONS_AT].into(), block[EVENTS_AT].into())
+fn counts(test: &[u8]) -> (usize, usize, usize) {
+    (test[HARTS_AT].into(), test[LOCATIONS_AT].into(), test[EVENTS_AT].into())
 }
 
 /// 6: "a byte named zero isn't zero, also: initial values of locations not in the test,
-/// final values not stated, records past the events"
-fn zeros_broken(block: &[u8]) -> bool {
-    let (_, locations, events) = counts(block);
-    let unstated = |l: &usize| !names_location(block[STATED_AT], *l);
-    let mut zeros: Vec<usize> = HEADER_ZEROS.chain(TAIL_ZEROS).collect();
-    zeros.extend(initial_at(locations)..initial_at(MAX_LOCATIONS));
-    zeros.extend((0..MAX_LOCATIONS).filter(unstated).flat_map(|l| final_at(l)..final_at(l + 1)));
-    zeros.extend(record_at(events)..record_at(MAX_EVENTS));
-    zeros.into_iter().any(|at| block[at] != 0)
+/// final values not stated, records past the events". The places of these bytes.
+fn zero_bytes(edition: Edition, test: &[u8]) -> impl Iterator<Item = usize> + '_ {
+    let (_, locations, events) = counts(test);
+    let unstated = |l: &usize| !names_location(test[STATED_AT], *l);
+    let values = initial_at(locations)..initial_at(MAX_LOCATIONS);
+    let finals = (0..MAX_LOCATIONS).filter(unstated).flat_map(|l| final_at(l)..final_at(l + 1));
+    let records = (events..edition.max_events()).flat_map(move |e| edition.record(e));
+    let unused = match edition {
+        Edition::One => Vec::new(),
+        Edition::Two => unused_in_two(),
+    };
+    HEADER_ZEROS.chain(TAIL_ZEROS).chain(values).chain(finals).chain(records).chain(unused)
 }
 
-/// Decodes a block that lines 1 to 6 don't refuse; refuses by 7.
-fn decode(block: &[u8]) -> Result<Table, Refusal> {
-    let (harts, locations, events) = counts(block);
+/// Of edition 2: "records area zero", "zero from 480" in the later blocks, and the "ten zeros" of
+/// each record.
+fn unused_in_two() -> Vec<usize> {
+    let blocks = (1..two::BLOCKS).map(|block| BLOCK_LENGTH * block);
+    let tails = blocks.flat_map(|at| two::BLOCK_ZEROS.map(move |zero| at + zero));
+    let records = (0..two::MAX_EVENTS).map(two::record_at);
+    let tens = records.flat_map(|at| two::field::ZEROS.map(move |zero| at + zero));
+    RECORDS_AREA.chain(tails).chain(tens).collect()
+}
+
+/// Decodes a test that lines 1 to 6 don't refuse; refuses by 7. "Editions 1 and 2 give one kind of
+/// table".
+fn decode(edition: Edition, test: &[u8]) -> Result<Table, Refusal> {
+    let (harts, locations, events) = counts(test);
     let mut table = Table {
         harts,
         locations,
-        stated: block[STATED_AT],
-        initial: std::array::from_fn(|l| word(block, initial_at(l))),
-        finals: std::array::from_fn(|l| word(block, final_at(l))),
+        stated: test[STATED_AT],
+        initial: std::array::from_fn(|l| word(test, initial_at(l))),
+        finals: std::array::from_fn(|l| word(test, final_at(l))),
         events: Vec::new(),
     };
     for e in 0..events {
-        let decoded = decode_event(&block[record_at(e)..record_at(e + 1)]);
+        let decoded = RawEvent::of_record(edition, &test[edition.record(e)]).typed();
         let in_range = decoded.filter(|event| !fields_broken(&table, event));
         table.events.push(in_range.ok_or(Refusal { line: Line::Fields, record: Some(e) })?);
     }
     Ok(table)
-}
-
-/// The event of a record, or none if its kind or its operation is out of range.
-fn decode_event(record: &[u8]) -> Option<Event> {
-    Some(Event {
-        kind: Kind::from_number(record[field::KIND])?,
-        hart: record[field::HART].into(),
-        location: record[field::LOCATION].into(),
-        flags: record[field::FLAGS],
-        address: word(record, field::ADDRESS).into(),
-        data: word(record, field::DATA).into(),
-        control: word(record, field::CONTROL).into(),
-        read: word(record, field::READ),
-        written: word(record, field::WRITTEN),
-        operation: Operation::from_number(record[field::OPERATION])?,
-        operand: record[field::OPERAND],
-    })
 }
 
 /// 7, but for a kind out of range and "an operation above 6": "hart, location or flags out of
@@ -348,6 +357,7 @@ fn pairing_broken(table: &Table, record: usize) -> bool {
 mod tests {
     use super::*;
     use crate::encode::{encode, seal};
+    use crate::layout::one::{field, record_at, MAX_EVENTS};
     use crate::litmus::*;
 
     fn refused(line: Line) -> Result<Table, Refusal> {

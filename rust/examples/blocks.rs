@@ -1,4 +1,5 @@
-//! Makes blocks: standard input has a line for each call of the table builder, standard output gets a block for each table.
+//! Makes tests: standard input has a line for each call of the table builder, standard output gets a block for each table, or
+//! three where it has more than 16 events.
 //!
 //!     table HARTS LOCATIONS               begins a table
 //!     load HART LOCATION READ             store HART LOCATION WRITTEN
@@ -30,13 +31,13 @@ fn main() -> ExitCode {
     }
 }
 
-/// Writes nothing unless every table has its block.
+/// Writes nothing unless every table has its test.
 fn run() -> Result<(), Box<dyn Error>> {
-    let mut blocks = Vec::new();
+    let mut suite = Vec::new();
     for (number, table) in tables(&io::read_to_string(io::stdin())?)?.iter().enumerate() {
-        blocks.extend(table.block().map_err(|refusal| format!("table {number} is {refusal}"))?);
+        suite.extend(table.test().map_err(|refusal| format!("table {number} is {refusal}"))?);
     }
-    Ok(io::stdout().write_all(&blocks)?)
+    Ok(io::stdout().write_all(&suite)?)
 }
 
 fn tables(text: &str) -> Result<Vec<Table>, String> {

@@ -1,4 +1,4 @@
-//! Lists all witnesses of the test in a block file: the global memory orders, by event numbers, that give the outcome.
+//! Lists all witnesses of the test in a file: the global memory orders, by event numbers, that give the outcome.
 //!
 //!     cargo run --offline --example witnesses -- ../samples/C1.block
 
@@ -8,7 +8,7 @@ use std::process::ExitCode;
 
 fn main() -> ExitCode {
     let Some(path) = std::env::args_os().nth(1) else {
-        eprintln!("usage: witnesses BLOCK-FILE");
+        eprintln!("usage: witnesses TEST-FILE");
         return ExitCode::FAILURE;
     };
     match list(path.as_ref()) {
@@ -21,8 +21,8 @@ fn main() -> ExitCode {
 }
 
 fn list(path: &std::path::Path) -> Result<(), Box<dyn Error>> {
-    let block = std::fs::read(path)?;
-    let mut witnesses = Witnesses::of(&block)?;
+    let test = std::fs::read(path)?;
+    let mut witnesses = Witnesses::of(&test)?;
     let mut count = 0;
     for order in &mut witnesses {
         let events: Vec<String> = order.iter().map(u8::to_string).collect();

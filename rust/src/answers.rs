@@ -10,9 +10,10 @@ const REFUSALS: &str = include_str!("../../docs/refusals.txt");
 /// Why the bench declines its input. Nothing was altered.
 ///
 /// ```
-/// let refusal = cogthunder::read(b"no block").unwrap_err();
-/// assert_eq!(refusal.number, 1);
-/// assert_eq!(refusal.to_string(), "refused 1: the block isn't 512 bytes long");
+/// let block = include_bytes!(concat!(env!("CARGO_MANIFEST_DIR"), "/../samples/C1-edition-9.block"));
+/// let refusal = cogthunder::read(block).unwrap_err();
+/// assert_eq!(refusal.number, 4);
+/// assert_eq!(refusal.to_string(), "refused 4: the edition in byte 4 is neither 1 nor 2");
 /// ```
 #[derive(Clone, Copy, PartialEq, Eq, Hash, Debug)]
 #[non_exhaustive]

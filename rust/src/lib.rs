@@ -1,8 +1,8 @@
 //! A proved bench for the RISC-V memory model (RVWMO).
 //!
-//! A test is a block of 512 bytes: loads, stores, AMOs, LR/SC pairs and fences of up to four harts, with the values that
-//! were read and the final values that are stated. The bench says whether the rules allow that outcome, and by which
-//! global memory orders. Events and locations are numbered from 0, in the order of the table.
+//! A test is a block of 512 bytes, or three of them in edition 2: loads, stores, AMOs, LR/SC pairs and fences of up to four
+//! harts, with the values that were read and the final values that are stated. The bench says whether the rules allow that
+//! outcome, and by which global memory orders. Events and locations are numbered from 0, in the order of the table.
 //!
 //! The functions here take any bytes: what they cannot work on they refuse, by a [`Refusal`] that says why, and a refusal
 //! alters no buffer. They call the proved static library, which allocates nothing and has no state.
@@ -31,24 +31,30 @@
 #![deny(missing_docs)]
 
 mod answers;
+mod edition_two;
 mod library;
 mod operation;
 mod rules;
+mod suite;
 mod table;
 mod witnesses;
 
 pub use answers::{Answer, Axiom, Refusal, Verdict};
-pub use library::{blocks, part, read, returns, rules, search, verdict, write};
+pub use library::{blocks, next_test, part, read, returns, rules, search, test_length, verdict, write};
 pub use operation::Operation;
 pub use rules::Rules;
+pub use suite::Tests;
 pub use table::{Accesses, Annotation, Event, Table};
 pub use witnesses::Witnesses;
 
 /// The length of a block.
 pub const BLOCK: usize = 512;
 
-/// A test has at most this many events: room for any order and for any returned list.
-pub const EVENTS: usize = 16;
+/// The length of the longest test, which is one of edition 2.
+pub const TEST: usize = 3 * BLOCK;
+
+/// A test has at most this many events: room for any order and for any returned list. One of edition 1 has up to 16.
+pub const EVENTS: usize = 30;
 
 /// The largest allowance of a search.
 pub const LARGEST_ALLOWANCE: u64 = 1_000_000_000;

@@ -5,26 +5,26 @@ use crate::rules::Rules;
 use crate::table::{Event, Table};
 
 extern "C" {
-    fn ct_read(block: *const u8, block_len: usize) -> u64;
+    fn ct_read(test: *const u8, test_len: usize) -> u64;
 
-    fn ct_table_of(block: *const u8, block_len: usize) -> Table;
+    fn ct_table_of(test: *const u8, test_len: usize) -> Table;
 
     fn ct_write(table: Table, out: *mut u8, out_len: usize) -> u64;
 
     fn ct_verdict(
-        block: *const u8,
-        block_len: usize,
+        test: *const u8,
+        test_len: usize,
         returned: *const u8,
         returned_len: usize,
         order: *const u8,
         order_len: usize,
     ) -> u64;
 
-    fn ct_rules(block: *const u8, block_len: usize, returned: *const u8, returned_len: usize, a: u64, b: u64) -> u64;
+    fn ct_rules(test: *const u8, test_len: usize, returned: *const u8, returned_len: usize, a: u64, b: u64) -> u64;
 
     fn ct_returns(
-        block: *const u8,
-        block_len: usize,
+        test: *const u8,
+        test_len: usize,
         order: *const u8,
         order_len: usize,
         out: *mut u8,
@@ -32,8 +32,8 @@ extern "C" {
     ) -> u64;
 
     fn ct_search(
-        block: *const u8,
-        block_len: usize,
+        test: *const u8,
+        test_len: usize,
         start: *const u8,
         start_len: usize,
         out: *mut u8,
@@ -44,6 +44,10 @@ extern "C" {
     fn ct_blocks(suite: *const u8, suite_len: usize) -> u64;
 
     fn ct_part_of(suite: *const u8, suite_len: usize, k: u64) -> Part;
+
+    fn ct_test_length(suite: *const u8, suite_len: usize, k: u64) -> u64;
+
+    fn ct_next(suite: *const u8, suite_len: usize, k: u64) -> u64;
 }
 
 /// Where a block stands in its suite, or the word of its refusal.
@@ -87,7 +91,7 @@ fn rules_part(word: u64) -> Rules {
     Rules::of_bits(u16::from_le_bytes([low, high]))
 }
 
-/// Reads a block. It is refused by 1 to 11.
+/// Reads a test. It is refused by 1 to 11.
 ///
 /// ```
 /// let mut block = *include_bytes!(concat!(env!("CARGO_MANIFEST_DIR"), "/../samples/C1.block"));
@@ -96,22 +100,22 @@ fn rules_part(word: u64) -> Rules {
 /// block[7] = 3;
 /// let refusal = cogthunder::read(&block).unwrap_err();
 /// assert_eq!(refusal.number, 2);
-/// assert_eq!(refusal.words(), "the check in bytes 508 to 511 isn't the weighted sum of the bytes before it");
+/// assert_eq!(refusal.words(), "the check in bytes 508 to 511 of a block isn't the weighted sum of the bytes before it");
 /// ```
-pub fn read(block: &[u8]) -> Result<(), Refusal> {
+pub fn read(test: &[u8]) -> Result<(), Refusal> {
     // Here and below each pointer is that of a slice, beside its length; it isn't null, and what is written to is lent
     // to this call alone.
-    let word = unsafe { ct_read(block.as_ptr(), block.len()) };
+    let word = unsafe { ct_read(test.as_ptr(), test.len()) };
     parts(word).map(|_| ())
 }
 
-/// The table of a block; blank if reading refuses it.
-pub(crate) fn table_of(block: &[u8]) -> Table {
-    unsafe { ct_table_of(block.as_ptr(), block.len()) }
+/// The table of a test; blank if reading refuses it.
+pub(crate) fn table_of(test: &[u8]) -> Table {
+    unsafe { ct_table_of(test.as_ptr(), test.len()) }
 }
 
 /// Writes the block of a table to `out`, which has [`BLOCK`](crate::BLOCK) bytes. It is refused by 1 if `out` has another
-/// length, and by 5 to 11.
+/// length, and by 5 to 11; a block is of edition 1, so more than 16 events are refused by 5.
 ///
 /// [`Table::block`] makes such a call.
 ///
@@ -147,9 +151,9 @@ pub fn write(table: &Table, out: &mut [u8]) -> Result<(), Refusal> {
 /// );
 /// # Ok::<(), cogthunder::Refusal>(())
 /// ```
-pub fn verdict(block: &[u8], returned: &[u8], order: &[u8]) -> Result<Verdict, Refusal> {
+pub fn verdict(test: &[u8], returned: &[u8], order: &[u8]) -> Result<Verdict, Refusal> {
     let word = unsafe {
-        ct_verdict(block.as_ptr(), block.len(), returned.as_ptr(), returned.len(), order.as_ptr(), order.len())
+        ct_verdict(test.as_ptr(), test.len(), returned.as_ptr(), returned.len(), order.as_ptr(), order.len())
     };
     let [case, first, second, _] = parts(word)?;
     Ok(Verdict::Broken(match case {
@@ -186,8 +190,8 @@ pub fn verdict(block: &[u8], returned: &[u8], order: &[u8]) -> Result<Verdict, R
 /// assert_eq!(rules(block, &[INITIALLY], 0, 1).unwrap_err().number, 12);
 /// # Ok::<(), cogthunder::Refusal>(())
 /// ```
-pub fn rules(block: &[u8], returned: &[u8], a: u64, b: u64) -> Result<Rules, Refusal> {
-    let word = unsafe { ct_rules(block.as_ptr(), block.len(), returned.as_ptr(), returned.len(), a, b) };
+pub fn rules(test: &[u8], returned: &[u8], a: u64, b: u64) -> Result<Rules, Refusal> {
+    let word = unsafe { ct_rules(test.as_ptr(), test.len(), returned.as_ptr(), returned.len(), a, b) };
     parts(word).map(|_| rules_part(word))
 }
 
@@ -205,9 +209,9 @@ pub fn rules(block: &[u8], returned: &[u8], a: u64, b: u64) -> Result<Rules, Ref
 /// assert_eq!(verdict(block, &returned, &order)?, Verdict::Allowed);
 /// # Ok::<(), cogthunder::Refusal>(())
 /// ```
-pub fn returns(block: &[u8], order: &[u8], out: &mut [u8]) -> Result<(), Refusal> {
+pub fn returns(test: &[u8], order: &[u8], out: &mut [u8]) -> Result<(), Refusal> {
     let word =
-        unsafe { ct_returns(block.as_ptr(), block.len(), order.as_ptr(), order.len(), out.as_mut_ptr(), out.len()) };
+        unsafe { ct_returns(test.as_ptr(), test.len(), order.as_ptr(), order.len(), out.as_mut_ptr(), out.len()) };
     parts(word).map(|_| ())
 }
 
@@ -232,9 +236,9 @@ pub fn returns(block: &[u8], order: &[u8], out: &mut [u8]) -> Result<(), Refusal
 /// assert_eq!(out[..4], [1, 2, 3, 0]);
 /// # Ok::<(), cogthunder::Refusal>(())
 /// ```
-pub fn search(block: &[u8], start: &[u8], out: &mut [u8], allowance: u64) -> Result<Answer, Refusal> {
+pub fn search(test: &[u8], start: &[u8], out: &mut [u8], allowance: u64) -> Result<Answer, Refusal> {
     let word = unsafe {
-        ct_search(block.as_ptr(), block.len(), start.as_ptr(), start.len(), out.as_mut_ptr(), out.len(), allowance)
+        ct_search(test.as_ptr(), test.len(), start.as_ptr(), start.len(), out.as_mut_ptr(), out.len(), allowance)
     };
     let [case, len, ..] = parts(word)?;
     let (len, visited) = (usize::from(len), word >> u32::BITS);
@@ -246,7 +250,7 @@ pub fn search(block: &[u8], start: &[u8], out: &mut [u8], allowance: u64) -> Res
     })
 }
 
-/// How many blocks a suite has; a last part block counts.
+/// How many blocks a suite has; a last part block counts. Its tests are [`Tests`](crate::Tests).
 ///
 /// ```
 /// use cogthunder::{blocks, part, read};
@@ -278,6 +282,40 @@ pub fn part(suite: &[u8], k: u64) -> Result<&[u8], Refusal> {
     parts(part.word)?;
     // Both are within the suite, whose length is a `usize`.
     Ok(&suite[part.offset as usize..][..part.length as usize])
+}
+
+/// How many bytes the test that begins at block `k` of a suite has: those of three blocks if block `k` by itself is neither
+/// refused by 2 nor by 3 and states edition 2, else those of one. A test that is cut has what is left, and 0 says that block
+/// `k` isn't in the suite.
+///
+/// ```
+/// use cogthunder::{test_length, BLOCK, TEST};
+///
+/// let test = include_bytes!(concat!(env!("CARGO_MANIFEST_DIR"), "/../samples/peterson.block"));
+/// let suite = [&test[..], &test[..1000]].concat();
+/// let lengths: Vec<usize> = (0..=5).map(|k| test_length(&suite, k)).collect();
+/// assert_eq!(lengths, [TEST, BLOCK, BLOCK, 1000, 1000 - BLOCK, 0]);
+/// ```
+pub fn test_length(suite: &[u8], k: u64) -> usize {
+    // It is within the suite, whose length is a `usize`.
+    unsafe { ct_test_length(suite.as_ptr(), suite.len(), k) as usize }
+}
+
+/// The number of the block where the test after that at block `k` begins: three blocks on after a good test of edition 2,
+/// one after any other test, refused or not. It is `k` itself where block `k` isn't in the suite.
+///
+/// [`Tests`](crate::Tests) makes such calls one after the other.
+///
+/// ```
+/// use cogthunder::next_test;
+///
+/// let test = include_bytes!(concat!(env!("CARGO_MANIFEST_DIR"), "/../samples/peterson.block"));
+/// let suite = [&test[..], &test[..1000]].concat();
+/// let next: Vec<u64> = (0..=5).map(|k| next_test(&suite, k)).collect();
+/// assert_eq!(next, [3, 2, 3, 4, 5, 5]);
+/// ```
+pub fn next_test(suite: &[u8], k: u64) -> u64 {
+    unsafe { ct_next(suite.as_ptr(), suite.len(), k) }
 }
 
 #[cfg(test)]

@@ -1,6 +1,7 @@
 //! A test by value, and the functions that build one.
 
 use crate::answers::Refusal;
+use crate::edition_two;
 use crate::library::{read, table_of, write};
 use crate::operation::Operation;
 use crate::BLOCK;
@@ -11,6 +12,9 @@ const LOCATIONS: usize = 8;
 /// How many events a table has room for. No test has as many, so that the last slot is that of no event.
 const SLOTS: usize = 32;
 const LAST_SLOT: u8 = SLOTS as u8 - 1;
+
+/// A block, which is a test of edition 1, has no more events.
+const BLOCK_EVENTS: u8 = 16;
 
 /// More locations than a test has: refused by 5.
 const TOO_MANY: u8 = u8::MAX;
@@ -62,7 +66,8 @@ pub struct Event {
 
 /// A test by value: its fields, and functions that fill them in.
 ///
-/// Any numbers may stand in it. A mistake comes back from [`block`](Table::block), as the refusal that says what is wrong.
+/// Any numbers may stand in it. A mistake comes back from [`block`](Table::block) and [`test`](Table::test), as the refusal
+/// that says what is wrong.
 ///
 /// Message passing, built and decided:
 ///
@@ -106,7 +111,7 @@ pub struct Table {
     pub harts: u8,
     /// The number of locations, 1 to 8.
     pub locations: u8,
-    /// The number of events, 1 to 16.
+    /// The number of events, 1 to 30; in a block up to 16.
     pub count: u8,
     /// Mask of the locations whose final value is stated; bit 0, the lowest, names location 0.
     pub stated: u8,
@@ -283,15 +288,15 @@ impl Table {
     }
 }
 
-/// A table and its block.
+/// A table and its test.
 impl Table {
-    /// The table of a block. It is refused by 1 to 11.
+    /// The table of a test of either edition. It is refused by 1 to 11.
     ///
     /// ```
     /// use cogthunder::{Operation, Table};
     ///
     /// let block = include_bytes!(concat!(env!("CARGO_MANIFEST_DIR"), "/../samples/counter.block"));
-    /// let mut table = Table::of_block(block)?;
+    /// let mut table = Table::of_test(block)?;
     /// assert_eq!(table.events[1].operation, Operation::Add as u8);
     /// assert_eq!(table.block()?, *block);
     ///
@@ -301,16 +306,51 @@ impl Table {
     /// assert_eq!((refusal.number, refusal.record), (7, Some(1)));
     /// # Ok::<(), cogthunder::Refusal>(())
     /// ```
-    pub fn of_block(block: &[u8]) -> Result<Table, Refusal> {
-        read(block)?;
-        Ok(table_of(block))
+    pub fn of_test(test: &[u8]) -> Result<Table, Refusal> {
+        read(test)?;
+        Ok(table_of(test))
     }
 
-    /// The block of the table, of which there is only one; [`read`](crate::read) accepts it. It is refused by 5 to 11.
+    /// The block of the table, of which there is only one; [`read`](crate::read) accepts it. It is refused by 5 to 11; a block
+    /// is of edition 1, so more than 16 events are refused by 5.
     pub fn block(&self) -> Result<[u8; BLOCK], Refusal> {
         let mut block = [0; BLOCK];
         write(self, &mut block)?;
         Ok(block)
+    }
+
+    /// The test of the table, which [`read`](crate::read) accepts: its block, or where there are more than 16 events a test of
+    /// edition 2. It is refused by 5 to 11.
+    ///
+    /// A block is written by the proved writer. A test of edition 2 isn't: plain Rust puts it together, and the library reads it
+    /// before it is handed out. That reading gives this table back is tested, and not proved.
+    ///
+    /// ```
+    /// use cogthunder::{Table, Witnesses, BLOCK, TEST};
+    ///
+    /// let mut table = Table::new(1, 1);
+    /// for value in 1..=16 {
+    ///     table.store(0, 0, value);
+    /// }
+    /// assert_eq!(table.test()?.len(), BLOCK);
+    /// assert_eq!(table.test()?, table.block()?);
+    ///
+    /// table.store(0, 0, 17);
+    /// table.final_value(0, 17);
+    /// let test = table.test()?;
+    /// assert_eq!(test.len(), TEST);
+    /// assert_eq!(Table::of_test(&test)?, table);
+    /// assert_eq!(Witnesses::of(&test)?.next(), Some((0..17).collect()));
+    /// assert_eq!(table.block().unwrap_err().number, 5);
+    /// # Ok::<(), cogthunder::Refusal>(())
+    /// ```
+    pub fn test(&self) -> Result<Vec<u8>, Refusal> {
+        if self.count <= BLOCK_EVENTS {
+            return self.block().map(|block| block.to_vec());
+        }
+        let test = edition_two::encode(self);
+        read(&test)?;
+        Ok(test.to_vec())
     }
 }
 
@@ -352,7 +392,8 @@ mod tests {
     #[test]
     fn a_good_table_is_written_read_and_searched() {
         let block = table().block().expect("the table is good");
-        assert_eq!(Table::of_block(&block), Ok(table()));
+        assert_eq!(Table::of_test(&block), Ok(table()));
+        assert_eq!(table().test(), Ok(block.to_vec()));
         assert!(Witnesses::of(&block).expect("the block is good").next().is_some());
     }
 
@@ -436,7 +477,51 @@ mod tests {
                 assert_eq!(usize::from(table.fence(0, Accesses::RW, Accesses::RW)), event.min(255));
             }
             assert_eq!(table.block().map_err(|refusal| refusal.number), Err(5));
+            let expected = if events <= 30 { 11 } else { 5 };
+            assert_eq!(table.test().map_err(|refusal| refusal.number), Err(expected));
         }
+    }
+
+    /// Loads, as many as edition 2 has room for.
+    fn thirty() -> Table {
+        let mut table = Table::new(1, 1);
+        for _ in 0..30 {
+            table.load(0, X, 0);
+        }
+        table
+    }
+
+    /// The number and the record by which a table of thirty events is refused.
+    fn refused_in_two<T>(change: impl FnOnce(&mut Table) -> T) -> (u8, Option<u8>) {
+        let mut table = thirty();
+        change(&mut table);
+        let refusal = table.test().expect_err("the table has a mistake");
+        (refusal.number, refusal.record)
+    }
+
+    #[test]
+    fn thirty_events_are_written_read_and_searched() {
+        let test = thirty().test().expect("the table is good");
+        assert_eq!(Table::of_test(&test), Ok(thirty()));
+        assert_eq!(Witnesses::of(&test).expect("the test is good").next(), Some((0..30).collect()));
+    }
+
+    #[test]
+    fn mistakes_among_thirty_events_are_refused_as_among_few() {
+        assert_eq!(refused_in_two(|t| t.load(0, X, 0)), (5, None));
+        assert_eq!(refused_in_two(|t| t.count = 29), (6, None));
+        assert_eq!(refused_in_two(|t| t.slot(30).kind = LOAD), (6, None));
+        assert_eq!(refused_in_two(|t| t.slot(31).operand = 1), (6, None));
+        assert_eq!(refused_in_two(|t| t.annotate(200, Annotation::AcquireRcpc)), (6, None));
+        assert_eq!(refused_in_two(|t| (t.harts, t.events[30].kind) = (9, LOAD)), (5, None));
+        assert_eq!(refused_in_two(|t| (t.events[3].kind, t.events[30].kind) = (9, LOAD)), (6, None));
+        assert_eq!(refused_in_two(|t| t.initial_value(1, 1)), (6, None));
+        assert_eq!(refused_in_two(|t| t.slot(29).hart = 1), (7, Some(29)));
+        assert_eq!(refused_in_two(|t| t.annotate(15, Annotation::ReleaseRcpc)), (8, Some(15)));
+        assert_eq!(refused_in_two(|t| t.address_dependency(29, 30)), (9, Some(29)));
+        assert_eq!(refused_in_two(|t| t.address_dependency(29, 31)), (9, Some(29)));
+        assert_eq!(refused_in_two(|t| t.address_dependency(29, 200)), (9, Some(29)));
+        assert_eq!(refused_in_two(|t| (t.slot(29).kind, t.slot(29).read) = (SC, 0)), (10, Some(29)));
     }
 
     #[test]

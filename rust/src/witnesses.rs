@@ -31,7 +31,7 @@ const ALLOWANCE: u64 = 1_000_000;
 /// ```
 #[derive(Clone, Debug)]
 pub struct Witnesses<'a> {
-    block: &'a [u8],
+    test: &'a [u8],
     start: Vec<u8>,
     allowance: u64,
     visited: u64,
@@ -39,17 +39,17 @@ pub struct Witnesses<'a> {
 }
 
 impl<'a> Witnesses<'a> {
-    /// From the beginning. It is refused by 1 to 11, as the block is.
-    pub fn of(block: &'a [u8]) -> Result<Witnesses<'a>, Refusal> {
-        Witnesses::resume(block, &[])
+    /// From the beginning. It is refused by 1 to 11, as the test is.
+    pub fn of(test: &'a [u8]) -> Result<Witnesses<'a>, Refusal> {
+        Witnesses::resume(test, &[])
     }
 
-    /// From a start that an earlier walk over the same block had reached. It is refused by 1 to 11, and by 15 if no walk
-    /// over this block could have such a start.
-    pub fn resume(block: &'a [u8], start: &[u8]) -> Result<Witnesses<'a>, Refusal> {
+    /// From a start that an earlier walk over the same test had reached. It is refused by 1 to 11, and by 15 if no walk
+    /// over this test could have such a start.
+    pub fn resume(test: &'a [u8], start: &[u8]) -> Result<Witnesses<'a>, Refusal> {
         // Without any allowance, the call only tells whether it is refused.
-        search(block, start, &mut [0; EVENTS], 0)?;
-        Ok(Witnesses { block, start: start.to_vec(), allowance: ALLOWANCE, visited: 0, finished: false })
+        search(test, start, &mut [0; EVENTS], 0)?;
+        Ok(Witnesses { test, start: start.to_vec(), allowance: ALLOWANCE, visited: 0, finished: false })
     }
 
     /// Chooses how many prefixes one search call visits at most: 1 to [`LARGEST_ALLOWANCE`], and what is outside is taken
@@ -62,8 +62,8 @@ impl<'a> Witnesses<'a> {
     /// Makes one search call, and moves the start to what it wrote. After [`Answer::Found`] the start is the witness.
     pub fn step(&mut self) -> Answer {
         let mut out = [0; EVENTS];
-        let answer = search(self.block, &self.start, &mut out, self.allowance)
-            .expect("the block and the start are good, and the room and the allowance are enough");
+        let answer = search(self.test, &self.start, &mut out, self.allowance)
+            .expect("the test and the start are good, and the room and the allowance are enough");
         match answer {
             Answer::Found { len, visited } | Answer::Spent { len, visited } => {
                 self.start = out[..len].to_vec();

@@ -1,4 +1,4 @@
-//! Times the proved search beside plain Rust with the same algorithm, on the same blocks and in the same run.
+//! Times the proved search and reading beside plain Rust with the same algorithms, on the same tests and in the same run.
 
 mod plain;
 mod proved;
@@ -15,6 +15,7 @@ use std::time::Instant;
 use table::{BLOCK, EVENTS};
 
 type Search = fn(&[u8], &mut [u8], u64) -> Result<Answer, Refusal>;
+type Reading = fn(&[u8]) -> Option<Refusal>;
 
 const ALLOWANCE: u64 = 1_000_000;
 const RUNS: usize = 20;
@@ -101,6 +102,28 @@ fn time_suite() {
     }
 }
 
+/// Milliseconds of reading all the tests in turn.
+fn time_reading(reading: Reading, tests: &[&[u8]]) -> f64 {
+    let begin = Instant::now();
+    for test in tests {
+        black_box(reading(black_box(test)));
+    }
+    begin.elapsed().as_secs_f64() * 1e3
+}
+
+/// Reading by itself, of as many good tests as the suite has blocks.
+fn time_readings(edition: u8, kinds: &[Vec<u8>]) {
+    for test in kinds {
+        assert_eq!((proved::refusal(test), reading::refusal(test)), (None, None));
+    }
+    let bytes: Vec<u8> = kinds.iter().cycle().take(SUITE_BLOCKS).flatten().copied().collect();
+    let tests: Vec<&[u8]> = bytes.chunks(kinds[0].len()).collect();
+    let (p, q) = (0..RUNS).fold((f64::MAX, f64::MAX), |(p, q), _| {
+        (p.min(time_reading(proved::refusal, &tests)), q.min(time_reading(reading::refusal, &tests)))
+    });
+    println!("{SUITE_BLOCKS} tests of edition {edition} read, ms: proved {p:.1}, Rust {q:.1}, ratio {:.2}", p / q);
+}
+
 /// With the path of the proved suite program it times both of them too.
 fn main() {
     if std::env::args().nth(1).as_deref() == Some(suite::COMMAND) {
@@ -108,4 +131,6 @@ fn main() {
     }
     time_shapes();
     time_suite();
+    time_readings(1, &shapes::small().iter().map(|t| t.encode()).collect::<Vec<_>>());
+    time_readings(2, &shapes::of_two().iter().map(|t| t.encode()).collect::<Vec<_>>());
 }

@@ -1,10 +1,12 @@
-//! The proved search, by its signature for C.
+//! The proved search and reading, by their signatures for C.
 
 use crate::plain::Answer;
 use crate::reading::Refusal;
 
 #[link(name = "capi", kind = "static")]
 extern "C" {
+    fn ct_read(test: *const u8, test_len: usize) -> u64;
+
     fn ct_search(
         block: *const u8,
         block_len: usize,
@@ -16,12 +18,25 @@ extern "C" {
     ) -> u64;
 }
 
+const REFUSED: u8 = 1;
 const FOUND: u8 = 7;
 const NONE_LEFT: u8 = 8;
 const SPENT: u8 = 9;
 
 /// In the place of a record where a refusal names none.
 const NO_RECORD: u8 = 255;
+
+fn refused(line: u8, record: u8) -> Refusal {
+    Refusal { line, record: Some(record).filter(|&k| k != NO_RECORD).map(usize::from) }
+}
+
+/// Why a test of either edition is refused.
+pub fn refusal(test: &[u8]) -> Option<Refusal> {
+    // The pointer is that of a slice, beside its length.
+    let word = unsafe { ct_read(test.as_ptr(), test.len()) };
+    let [case, line, record, ..] = word.to_le_bytes();
+    (case == REFUSED).then(|| refused(line, record))
+}
 
 /// The whole call on a block, from the empty start.
 pub fn search(block: &[u8], out: &mut [u8], allowance: u64) -> Result<Answer, Refusal> {
@@ -35,6 +50,6 @@ pub fn search(block: &[u8], out: &mut [u8], allowance: u64) -> Result<Answer, Re
         FOUND => Ok(Answer::Found { len, visited }),
         NONE_LEFT => Ok(Answer::NoneLeft { visited }),
         SPENT => Ok(Answer::Spent { len, visited }),
-        _ => Err(Refusal { line: first, record: Some(second).filter(|&k| k != NO_RECORD).map(usize::from) }),
+        _ => Err(refused(first, second)),
     }
 }

@@ -1,6 +1,6 @@
 //! The tables that are timed. No outcome stated here is reachable, so that a search visits all it may.
 
-use crate::table::{Event, Table, EVENTS, FENCE, LOAD, STORE};
+use crate::table::{Event, Mask, Table, TableTwo, ADD, AMO, EVENTS, EVENTS_TWO, FENCE, LOAD, LR, SC, STORE};
 
 const X: u8 = 0;
 const Y: u8 = 1;
@@ -14,15 +14,15 @@ const NEVER: u16 = 99;
 /// A fence of all four bits.
 const FULL: u8 = 0b1111;
 
-fn store(hart: u8, location: u8, written: u16) -> Event {
+fn store<M: Mask>(hart: u8, location: u8, written: u16) -> Event<M> {
     Event { kind: STORE, hart, location, written, ..Event::default() }
 }
 
-fn load(hart: u8, location: u8, read: u16) -> Event {
+fn load<M: Mask>(hart: u8, location: u8, read: u16) -> Event<M> {
     Event { kind: LOAD, hart, location, read, ..Event::default() }
 }
 
-fn fence(hart: u8) -> Event {
+fn fence<M: Mask>(hart: u8) -> Event<M> {
     Event { kind: FENCE, hart, flags: FULL, ..Event::default() }
 }
 
@@ -202,4 +202,31 @@ pub fn small() -> Vec<Table> {
         coherence.table(),
         own_store.table(),
     ]
+}
+
+/// Tests of edition 2 that are read: every number of events that edition 1 has no room for.
+pub fn of_two() -> Vec<TableTwo> {
+    let table = |count: usize| {
+        let mut t = TableTwo { count, locations: HARTS.into(), ..Table::default() };
+        for (k, event) in t.events[..count].iter_mut().enumerate() {
+            *event = mixed(k);
+        }
+        t
+    };
+    (EVENTS + 1..=EVENTS_TWO).map(table).collect()
+}
+
+/// Event k of a table whose harts take turns: each does the same, with every kind of event.
+fn mixed(k: usize) -> Event<u32> {
+    let turn = k / usize::from(HARTS);
+    let hart = (k % usize::from(HARTS)) as u8;
+    let earlier = |turns: usize| 1 << (k - turns * usize::from(HARTS));
+    match turn % 6 {
+        0 => load(hart, hart, 0),
+        1 => Event { data: earlier(1), ..store(hart, following(hart), 1) },
+        2 => fence(hart),
+        3 => Event { kind: AMO, addr: earlier(3), written: 1, operation: ADD, operand: 1, ..load(hart, hart, 0) },
+        4 => Event { kind: LR, ..load(hart, hart, 1) },
+        _ => Event { kind: SC, ..store(hart, hart, 2) },
+    }
 }

@@ -1,8 +1,8 @@
 // Atomicity: LR l is paired with SC s; it returned from the write f.
-use edition::EventNo;
 use global_order::before;
 use reads_from::INITIALLY;
 use reads_from::returned_from;
+use table::EventNo;
 use table::Kind;
 use table::Table;
 ghost use Prim.Native.Nat.{_≤_, _<_};

@@ -6,11 +6,12 @@ use mathlib.Core.Logic.{_≢_}
 use native.Mathlib.Omega.{arith}
 use Rattle.lists.specs.Reply.{Reply, refused}
 use Rattle.table.specs.declared.Table.{Table}
+use Rattle.decode.specs.Layout.{editionOf}
 use Rattle.decode.specs.Decoded.{decoded}
 use Rattle.refusals.specs.Lines.{Refused, accepted, firstLine, unless, replyUnless}
 use Rattle.refusals.proofs.PassedLaws.{refused-first, passed-first, entry-declined, entry-own, unless-refused}
 use Rattle.block.specs.Reading.{readingLines, readRefusal, readTable, noTable}
-use Rattle.block.proofs.ReadingLaws.{passed-table}
+use Rattle.block.proofs.ReadingLaws.{passed-table, most-fits}
 use Rattle.table.specs.Counts.{Small}
 use Rattle.prefixes.specs.Answer.{Answer}
 use Rattle.model.specs.Returns.{returns}
@@ -34,7 +35,7 @@ module _ (s : List ℕ) (ok : readRefusal s ≡ accepted) where
 
   -- its counts are in range
   pub small-read : Small (decoded s)
-  small-read = let r = passed-table s ok .counts in record { events = omega (arith, r .events); locations = r .locations }
+  small-read = let r = passed-table s ok .counts in record { events = omega (arith, r .events, most-fits (editionOf s)); locations = r .locations }
 
 -- The verdict entry.
 module _ (s rf gmo : List ℕ) where

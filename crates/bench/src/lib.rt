@@ -10,6 +10,7 @@ ghost use Rattle.refusals.specs.Refusals.{refusalOf};
 ghost use Rattle.block.specs.Reading.{readRefusal, readTable};
 ghost use Rattle.writer.specs.Writing.{writeRefusal, writtenBlock};
 ghost use Rattle.suite_part.specs.Part.{blockOf, blockCount};
+ghost use Rattle.suite_walk.specs.Tests.{testOf, testLengthAt, nextBlock};
 ghost use Rattle.verdict.specs.Judged.{judgedOf};
 ghost use Rattle.pair_rules.specs.PairRules.{ruledOf};
 ghost use Rattle.search.specs.Replies.{replyOf, lengthOf, prefixLength};
@@ -17,7 +18,7 @@ ghost use Rattle.bench.specs.Candidate.{verdictOf, returnsRefusal, retur
 ghost use Rattle.bench.specs.PairRules.{rulesOf};
 ghost use Rattle.bench.specs.Search.{searchReply, searchBuffer};
 
-// Reading a block: refusals 1 to 11, and the table.
+// Reading a test: refusals 1 to 11, and the table.
 pub fn read(bytes: &[u8]) -> Reading
     ensures { λ r. ⌜ (refusalOf (r .refusal) ≡ readRefusal (now (bytes .entry))) × (r .table ≡ readTable (now (bytes .entry))) ⌝ }
 {
@@ -44,6 +45,27 @@ pub fn blocks(suite: &[u8]) -> usize
     ensures { λ r. ⌜ r ≡ blockCount (now (suite .entry)) ⌝ }
 {
     suite_part::blocks(suite)
+}
+
+// The test that begins at block k, as that part of the caller's bytes: empty if the suite has no block k, cut at the suite's end.
+pub fn test(suite: &[u8], k: usize) -> &[u8]
+    ensures { λ r. ⌜ now r ≡ testOf (now (suite .entry)) k ⌝ }
+{
+    suite_walk::test(suite, k)
+}
+
+// How many bytes it has.
+pub fn test_length(suite: &[u8], k: usize) -> usize
+    ensures { λ r. ⌜ r ≡ testLengthAt (now (suite .entry)) k ⌝ }
+{
+    suite_walk::test_length(suite, k)
+}
+
+// The number of the block where the test after it begins; k itself if the suite has no block k.
+pub fn next(suite: &[u8], k: usize) -> usize
+    ensures { λ r. ⌜ r ≡ nextBlock (now (suite .entry)) k ⌝ }
+{
+    suite_walk::next(suite, k)
 }
 
 // The verdict for a candidate.

@@ -1,16 +1,17 @@
-// Reading a block: refusals 1 to 11, and the table.
+// Reading a test of either edition: refusals 1 to 11, and the table.
 use decode::At;
 use decode::MARKER;
 use edition::EditionOne;
+use edition::EditionTwo;
 use refusals::Refusal;
 use table::Table;
-ghost use Prim.Native.Nat.{_+_};
+ghost use Prim.Native.Nat.{_≤_};
 ghost use mathlib.Core.Path.{_≡_};
 ghost use lib.ListN.{length};
-ghost use Rattle.edition.specs.Limits.{blockLength};
+ghost use Rattle.edition.specs.Limits.{one, two, blockLength, testLength};
 ghost use Rattle.refusals.specs.Lines.{byLine, unless};
 ghost use Rattle.refusals.specs.Refusals.{refusalOf};
-ghost use Rattle.block.specs.Reading.{noTable, line3, readRefusal, readTable};
+ghost use Rattle.block.specs.Reading.{noTable, line2, line3, laterCheckWrong, readRefusal, readTable, Reads, ReadsAs};
 
 pub struct Reading {
     pub refusal: Refusal,
@@ -61,26 +62,27 @@ pub fn table_if(refusal: Refusal, t: Table) -> Reading
     }
 }
 
-fn marker_wrong(s: &[u8]) -> bool
-    requires { ⌜ length (now s) ≡ blockLength ⌝ }
+pub fn check_wrong(s: &[u8]) -> bool
+    requires { ⌜ blockLength ≤ length (now s) ⌝ }
+    ensures { λ r. ⌜ r ≡ line2 (now (s .entry)) ⌝ }
+{
+    decode::stored_check(s) != checksum::checksum(s)
+}
+
+pub fn marker_wrong(s: &[u8]) -> bool
+    requires { ⌜ blockLength ≤ length (now s) ⌝ }
     ensures { λ r. ⌜ r ≡ line3 (now (s .entry)) ⌝ }
 {
     (s[0] != MARKER[0]) | (s[1] != MARKER[1]) | (s[2] != MARKER[2]) | (s[3] != MARKER[3])
 }
 
-// Reading 512 bytes.
-fn read_whole(s: &[u8]) -> Reading
-    requires { ⌜ length (now s) ≡ blockLength ⌝ }
-    ensures { λ r. ⌜ (refusalOf (r .refusal) ≡ readRefusal (now (s .entry))) × (r .table ≡ readTable (now (s .entry))) ⌝ }
+// What edition 1 asks, and the table.
+fn read_one(s: &[u8]) -> Reading
+    requires { ⌜ blockLength ≤ length (now s) ⌝ }
+    ensures { λ r. ⌜ ReadsAs one (now (s .entry)) (refusalOf (r .refusal)) (r .table) ⌝ }
 {
-    if decode::stored_check(s) != checksum::checksum(s) {
-        return refused(2);
-    }
-    if marker_wrong(s) {
-        return refused(3);
-    }
-    if s[At::EDITION] != EditionOne::NUMBER {
-        return refused(4);
+    if s.len() != EditionOne::BLOCK {
+        return refused(1);
     }
     let t = decode::decode(s);
     table_if(
@@ -89,12 +91,58 @@ fn read_whole(s: &[u8]) -> Reading
     )
 }
 
-// Any bytes: the lowest refusal of 1 to 11, and the table, which is blank if there is one.
+// The check of a block behind the first.
+fn later_check_wrong(s: &[u8]) -> bool
+    requires { ⌜ length (now s) ≡ testLength two ⌝ }
+    ensures { λ r. ⌜ r ≡ laterCheckWrong two (now (s .entry)) ⌝ }
+{
+    check_wrong(suite_part::block(s, 1)) | check_wrong(suite_part::block(s, 2))
+}
+
+// What edition 2 asks, and the table.
+fn read_two(s: &[u8]) -> Reading
+    requires { ⌜ blockLength ≤ length (now s) ⌝ }
+    ensures { λ r. ⌜ ReadsAs two (now (s .entry)) (refusalOf (r .refusal)) (r .table) ⌝ }
+{
+    if s.len() != EditionTwo::TEST {
+        return refused(1);
+    }
+    if later_check_wrong(s) {
+        return refused(2);
+    }
+    let t = wide_records::decode(s);
+    table_if(
+        table_lines::refuse(t, EditionTwo::EVENTS, zero_bytes::wide_bytes_not_zero(s)),
+        t,
+    )
+}
+
+// Reading 512 bytes or more: the first 512 have the header.
+fn read_header(s: &[u8]) -> Reading
+    requires { ⌜ blockLength ≤ length (now s) ⌝ }
+    ensures { λ r. ⌜ Reads (now (s .entry)) (refusalOf (r .refusal)) (r .table) ⌝ }
+{
+    if check_wrong(s) {
+        return refused(2);
+    }
+    if marker_wrong(s) {
+        return refused(3);
+    }
+    if s[At::EDITION] == EditionOne::NUMBER {
+        return read_one(s);
+    }
+    if s[At::EDITION] == EditionTwo::NUMBER {
+        return read_two(s);
+    }
+    refused(4)
+}
+
+// Any bytes: the first refusal of 1 to 11, and the table, which is blank if there is one.
 pub fn read(s: &[u8]) -> Reading
     ensures { λ r. ⌜ (refusalOf (r .refusal) ≡ readRefusal (now (s .entry))) × (r .table ≡ readTable (now (s .entry))) ⌝ }
 {
-    if s.len() != EditionOne::BLOCK {
+    if s.len() < EditionOne::BLOCK {
         return refused(1);
     }
-    read_whole(s)
+    read_header(s)
 }

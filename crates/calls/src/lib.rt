@@ -3,11 +3,11 @@ use console::Input;
 use console::Line;
 ghost use Prim.Native.Nat.{_≤_};
 
-// A call that lends the block of those after it.
+// A call that lends the test or the suite of those after it.
 pub const LEND: u8 = b'B';
 
-// No block of a stream is longer.
-pub const BLOCK: usize = 2048;
+// No test of a stream is longer.
+pub const TEST: usize = 2048;
 
 // How many values two bytes have.
 const WORDS: u64 = 65_536;
@@ -33,8 +33,8 @@ pub fn list(buffer: &mut [u8]) -> usize {
     console::read(buffer, n)
 }
 
-// Reads a block, a length of two bytes and that many bytes; answers how many came.
-pub fn block(buffer: &mut [u8]) -> usize {
+// Reads a test or a suite, a length of two bytes and that many bytes; answers how many came.
+pub fn frame(buffer: &mut [u8]) -> usize {
     let n = console::word();
     console::read(buffer, n as usize)
 }

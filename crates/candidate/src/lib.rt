@@ -1,8 +1,8 @@
 // Lines 12 to 14: tests of a candidate's order and returned list against the table.
-use edition::EventNo;
 use reads_from::INITIALLY;
 use reads_from::NOTHING;
 use reads_from::returned_from;
+use table::EventNo;
 use table::Table;
 ghost use Prim.Native.Nat.{_≤_, _<_};
 ghost use mathlib.Core.Path.{_≡_};

@@ -1,9 +1,9 @@
 // Reads a stream of candidates, of pairs whose rules and of orders whose returned lists are asked for, and prints a line for each.
 use console::Input;
 use console::Line;
-use edition::EventNo;
 use pair_rules::PairRules;
 use refusals::Refusal;
+use table::EventNo;
 use verdict::Axiom;
 use verdict::Verdict;
 
@@ -119,7 +119,7 @@ fn read_pair(k: u64, block: &[u8]) {
 
 fn call(tag: u8, k: u64, block: &mut [u8], size: usize) -> Effect {
     if tag == calls::LEND {
-        return Effect::Lent(calls::block(block));
+        return Effect::Lent(calls::frame(block));
     }
     let bytes = console::front(block, size);
     if tag == VERDICT {
@@ -160,6 +160,6 @@ fn candidates(block: &mut [u8]) {
 }
 
 fn main() {
-    let mut block = [0u8; calls::BLOCK];
+    let mut block = [0u8; calls::TEST];
     candidates(&mut block);
 }

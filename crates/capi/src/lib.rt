@@ -6,6 +6,7 @@ ghost use mathlib.Core.Path.{_≡_};
 ghost use Rattle.block.specs.Reading.{readRefusal, readTable};
 ghost use Rattle.writer.specs.Writing.{writeRefusal, writtenBlock};
 ghost use Rattle.suite_part.specs.Part.{blockCount};
+ghost use Rattle.suite_walk.specs.Tests.{testLengthAt, nextBlock};
 ghost use Rattle.bench.specs.Candidate.{verdictOf, returnsRefusal, returnsBuffer};
 ghost use Rattle.bench.specs.PairRules.{rulesOf};
 ghost use Rattle.bench.specs.Search.{searchReply, searchBuffer};
@@ -80,6 +81,22 @@ pub extern "C" fn ct_blocks(suite: &[u8]) -> u64
     ensures { λ r. ⌜ r ≡ blockCount (now (suite .entry)) ⌝ }
 {
     bench::blocks(suite) as u64
+}
+
+// How many bytes the test that begins at block k has: 0 if the suite has no block k; of a cut one what is left.
+#[no_mangle]
+pub extern "C" fn ct_test_length(suite: &[u8], k: u64) -> u64
+    ensures { λ r. ⌜ r ≡ testLengthAt (now (suite .entry)) k ⌝ }
+{
+    bench::test_length(suite, k as usize) as u64
+}
+
+// The number of the block where the test after it begins; k itself if the suite has no block k.
+#[no_mangle]
+pub extern "C" fn ct_next(suite: &[u8], k: u64) -> u64
+    ensures { λ r. ⌜ r ≡ nextBlock (now (suite .entry)) k ⌝ }
+{
+    bench::next(suite, k as usize) as u64
 }
 
 // "block number not in the suite"

@@ -47,6 +47,30 @@ unfolding digitsOf
 digits-short zero n = omega arith
 digits-short (suc k) n = short (ltb n 10) _ _ (suc k) (omega arith) (omega (arith, digits-short k (n / 10), length-append (digitsOf k (n / 10)) (glyph (n % 10) ∷ [])))
 
+-- As many digits as a bound of the number has.
+digits-few : (j k n : ℕ) → n < 10 ^ suc j → length (digitsOf k n) ≤ suc j
+unfolding digitsOf
+digits-few j zero n h = omega arith
+digits-few zero (suc k) n h =
+    let one = taken (lt-ltb n 10 h) (glyph n ∷ []) (digitsOf k (n / 10) ++ (glyph (n % 10) ∷ [])) in
+    omega (arith, ap length (sym one))
+digits-few (suc j) (suc k) n h =
+    let p : 10 ^ suc (suc j) ≡ 10 ^ suc j * 10 = pow-suc 10 (suc j) in
+    short (ltb n 10) _ _ (suc (suc j)) (omega arith)
+    (omega (arith, digits-few j k (n / 10) (omega (arith, p)), length-append (digitsOf k (n / 10)) (glyph (n % 10) ∷ [])))
+
+-- Each byte of a list has at most three digits, and a space before it.
+pub spaced-bytes : (xs : List ℕ) → ((i : ℕ) → getD xs i 0 < 256) → length (spaced xs) ≤ 4 * length xs
+unfolding spaced
+spaced-bytes [] h = omega arith
+spaced-bytes (x ∷ xs) h =
+    omega (
+      arith,
+      length-append (ascii " " ++ decimal x) (spaced xs),
+      digits-few 2 20 x (let b : x < 1000 = omega (arith, h 0) in b),
+      spaced-bytes xs (λ i. h (suc i)),
+    )
+
 pub spaced-append : (xs ys : List ℕ) → spaced (xs ++ ys) ≡ spaced xs ++ spaced ys
 unfolding spaced
 spaced-append [] ys = refl

@@ -16,6 +16,7 @@ pub use stdin::Input;
 pub use stdin::byte;
 pub use stdin::byte_or_zero;
 pub use stdin::fill;
+pub use stdin::fill_to;
 pub use stdin::read;
 pub use stdin::word;
 ghost use mathlib.Core.Path.{_≡_};

@@ -1,28 +1,40 @@
 // Standard input. A read that fails isn't the end of the input.
 use libc::STDIN_FILENO;
 ghost use Prim.Native.Nat.{_≤_};
+ghost use lib.ListN.{length};
+ghost use Rattle.console.specs.Input.{Holds};
 
-// What was read: so many bytes, the whole buffer or all that the input had left; or a read failed.
+// What is held: so many bytes, as many as were asked for or all that the input had left; or a read failed.
 pub enum Filled {
     Bytes(usize),
     Failed,
 }
 
-// Reads to the front of the buffer until it is full, the input ends or a read fails.
-pub fn fill(buffer: &mut [u8]) -> Filled {
-    let mut n: usize = 0;
-    while n < buffer.len() {
-        let got = libc::read(STDIN_FILENO, &mut buffer[n..]);
+// Reads behind the bytes held at the front of the buffer until there are `most`, the input ends or a read fails.
+pub fn fill_to(buffer: &mut [u8], held: usize, most: usize) -> Filled
+    requires { ⌜ held ≤ length (now buffer) ⌝ }
+    requires { ⌜ most ≤ length (now buffer) ⌝ }
+    ensures { λ r. ⌜ Holds held (now (buffer .entry)) (now (buffer .exit)) r ⌝ }
+{
+    let mut n = held;
+    while n < most {
+        let got = libc::read(STDIN_FILENO, &mut buffer[n..most]);
         if got < 0 {
             return Filled::Failed;
         }
-        let more = io::count(got, &buffer[n..]);
+        let more = io::count(got, &buffer[n..most]);
         if more == 0 {
             return Filled::Bytes(n);
         }
         n += more;
     }
     Filled::Bytes(n)
+}
+
+// Reads to the front of the buffer until it is full, the input ends or a read fails.
+pub fn fill(buffer: &mut [u8]) -> Filled {
+    let most = buffer.len();
+    fill_to(buffer, 0, most)
 }
 
 // How many bytes were read; none if a read failed, which standard error then says.

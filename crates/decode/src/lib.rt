@@ -1,18 +1,18 @@
-// The table that a block's bytes stand for.
+// The table that an edition 1 block stands for, and the header block of both editions.
 use edition::EditionOne;
-use edition::LocationNo;
 use table::CAPACITY;
 use table::Event;
 use table::LOCATIONS;
+use table::LocationNo;
 use table::Table;
 ghost use Prim.Native.Nat.{ℕ, _+_, _*_, _≤_, _<_};
 ghost use mathlib.Core.Path.{_≡_};
 ghost use lib.ListN.{length};
 ghost use Rattle.lists.specs.Filled.{upTo};
-ghost use Rattle.edition.specs.Limits.{blockLength, maxLocations};
+ghost use Rattle.edition.specs.Limits.{one, blockLength, maxLocations};
 ghost use Rattle.table.specs.Events.{capacity};
 ghost use Rattle.decode.specs.Layout.{byteAt, wordAt, storedCheck};
-ghost use Rattle.decode.specs.Decoded.{recordFrom, eventAt, decoded};
+ghost use Rattle.decode.specs.Decoded.{recordFrom, eventAt, headed, decodedAs};
 
 pub const MARKER: [u8; 4] = [0x52, 0x56, 0x54, 0x31];
 
@@ -76,7 +76,7 @@ const BYTES: u16 = 256;
 
 const WORDS: u32 = 65536;
 
-fn byte_at(s: &[u8], at: usize) -> u8
+pub fn byte_at(s: &[u8], at: usize) -> u8
     requires { ⌜ at < length (now s) ⌝ }
     ensures { λ r. ⌜ r ≡ byteAt (now (s .entry)) at ⌝ }
 {
@@ -84,7 +84,7 @@ fn byte_at(s: &[u8], at: usize) -> u8
 }
 
 // The number of two bytes, the low one first.
-fn word_at(s: &[u8], at: usize) -> u16
+pub fn word_at(s: &[u8], at: usize) -> u16
     requires { ⌜ at + 1 < length (now s) ⌝ }
     ensures { λ r. ⌜ r ≡ wordAt (now (s .entry)) at ⌝ }
 {
@@ -121,8 +121,8 @@ fn record_at(s: &[u8], at: usize) -> Event
 
 // Slot `k` of the table.
 fn event_at(s: &[u8], k: usize) -> Event
-    requires { ⌜ (length (now s) ≡ blockLength) × (k < capacity) ⌝ }
-    ensures { λ r. ⌜ r ≡ eventAt (now (s .entry)) k ⌝ }
+    requires { ⌜ (blockLength ≤ length (now s)) × (k < capacity) ⌝ }
+    ensures { λ r. ⌜ r ≡ eventAt one (now (s .entry)) k ⌝ }
 {
     if k < EditionOne::EVENTS {
         record_at(s, At::RECORDS + RECORD * k)
@@ -132,8 +132,8 @@ fn event_at(s: &[u8], k: usize) -> Event
 }
 
 fn events(s: &[u8]) -> [Event; CAPACITY]
-    requires { ⌜ length (now s) ≡ blockLength ⌝ }
-    ensures { λ r. ⌜ r ≡ upTo capacity (eventAt (now (s .entry))) ⌝ }
+    requires { ⌜ blockLength ≤ length (now s) ⌝ }
+    ensures { λ r. ⌜ r ≡ upTo capacity (eventAt one (now (s .entry))) ⌝ }
 {
     let mut list = [table::no_event(); CAPACITY];
     let mut k: usize = 0;
@@ -160,16 +160,16 @@ fn values(s: &[u8], at: usize) -> [u16; LOCATIONS]
 
 // The check that the block states.
 pub fn stored_check(s: &[u8]) -> u32
-    requires { ⌜ length (now s) ≡ blockLength ⌝ }
+    requires { ⌜ blockLength ≤ length (now s) ⌝ }
     ensures { λ r. ⌜ r ≡ storedCheck (now (s .entry)) ⌝ }
 {
     word_at(s, At::CHECK) as u32 + WORDS * word_at(s, At::CHECK + WORD) as u32
 }
 
-// Any bytes give a table. Whether it is a good one is for the refusals to say.
-pub fn decode(s: &[u8]) -> Table
-    requires { ⌜ length (now s) ≡ blockLength ⌝ }
-    ensures { λ r. ⌜ r ≡ decoded (now (s .entry)) ⌝ }
+// The header block's fields, with these events.
+pub fn headed(s: &[u8], events: [Event; CAPACITY]) -> Table
+    requires { ⌜ blockLength ≤ length (now s) ⌝ }
+    ensures { λ r. ⌜ r ≡ headed (now (s .entry)) events ⌝ }
 {
     Table {
         harts: byte_at(s, At::HARTS),
@@ -177,7 +177,15 @@ pub fn decode(s: &[u8]) -> Table
         count: byte_at(s, At::EVENTS),
         stated: byte_at(s, At::STATED),
         initial: values(s, At::INITIAL),
-        events: events(s),
+        events,
         finals: values(s, At::FINALS),
     }
+}
+
+// Any bytes give a table. Whether it is a good one is for the refusals to say.
+pub fn decode(s: &[u8]) -> Table
+    requires { ⌜ blockLength ≤ length (now s) ⌝ }
+    ensures { λ r. ⌜ r ≡ decodedAs one (now (s .entry)) ⌝ }
+{
+    headed(s, events(s))
 }

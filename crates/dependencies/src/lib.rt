@@ -1,6 +1,6 @@
 // Syntactic dependencies: rules 9 to 11. y is event b.
-use edition::EventNo;
 use table::Event;
+use table::EventNo;
 ghost use Prim.Native.Nat.{_<_};
 ghost use mathlib.Core.Path.{_≡_};
 ghost use mathlib.Core.Bool.{_&&_};

@@ -1,6 +1,6 @@
 // Lines 9 and 10: tests of a record against the other records of its hart.
-use edition::EventNo;
 use table::Event;
+use table::EventNo;
 use table::Kind;
 use table::Table;
 ghost use Prim.Native.Nat.{_≤_, _<_};

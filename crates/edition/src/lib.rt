@@ -1,6 +1,6 @@
-// The limits belong to the edition and are stated once.
+// The limits belong to the edition and are stated once; the functions hold them to the definitions.
 ghost use mathlib.Core.Path.{_≡_};
-ghost use Rattle.edition.specs.Limits.{maxEvents, maxHarts, maxLocations, blockLength};
+ghost use Rattle.edition.specs.Limits.{one, two, maxHarts, maxLocations, blockLength, mostEvents, testLength};
 
 pub struct EditionOne;
 
@@ -13,6 +13,7 @@ impl EditionOne {
 
     pub const EVENTS: usize = 16;
 
+    // The bytes of a block. A test is one.
     pub const BLOCK: usize = 512;
 
     pub fn harts() -> usize
@@ -28,7 +29,7 @@ impl EditionOne {
     }
 
     pub fn events() -> usize
-        ensures { λ r. ⌜ r ≡ maxEvents ⌝ }
+        ensures { λ r. ⌜ r ≡ mostEvents one ⌝ }
     {
         Self::EVENTS
     }
@@ -40,9 +41,28 @@ impl EditionOne {
     }
 }
 
-// A number of an event of the table.
-pub struct EventNo(pub u8);
+// Harts, locations and the length of a block are those of edition 1.
+pub struct EditionTwo;
 
-// A number of a location. The two can't be mixed.
-#[repr(C)]
-pub struct LocationNo(pub u8);
+impl EditionTwo {
+    pub const NUMBER: u8 = 2;
+
+    pub const EVENTS: usize = 30;
+
+    // The blocks of a test, and its bytes.
+    pub const BLOCKS: usize = 3;
+
+    pub const TEST: usize = Self::BLOCKS * EditionOne::BLOCK;
+
+    pub fn events() -> usize
+        ensures { λ r. ⌜ r ≡ mostEvents two ⌝ }
+    {
+        Self::EVENTS
+    }
+
+    pub fn test() -> usize
+        ensures { λ r. ⌜ r ≡ testLength two ⌝ }
+    {
+        Self::TEST
+    }
+}

@@ -5,7 +5,7 @@ use mathlib.Core.List.{List, [], _++_, append-assoc, append-nil}
 use native.Mathlib.Omega.{arith}
 use lib.ListN.{length, drop, length-append, length-replicate, replicate-append-replicate}
 use lib.Seq.{sets, sets-eq, take-append-seam, take-at, take-all, drop-at, drop-append-add}
-use Rattle.edition.specs.Limits.{blockLength, maxEvents}
+use Rattle.edition.specs.Limits.{one, blockLength, mostEvents}
 use Rattle.table.specs.declared.Table.{Table}
 use Rattle.table.specs.Events.{event}
 use Rattle.checksum.specs.Checksum.{covered, checksum, weightedFrom}
@@ -67,7 +67,7 @@ begun-front t l m e f =
     refl (omega (arith, length-values (t .initial)))
 
 -- one more record is set
-pub begun-record : (t : Table) (k : ℕ) (l m : List ℕ) → k < maxEvents → l ≡ begun (front t ++ joined k (λ j. recordBytes (event t j)))
+pub begun-record : (t : Table) (k : ℕ) (l m : List ℕ) → k < mostEvents one → l ≡ begun (front t ++ joined k (λ j. recordBytes (event t j)))
     → m ≡ sets l (32 + 16 * k) (recordBytes (event t k)) → m ≡ begun (front t ++ joined (k + 1) (λ j. recordBytes (event t j)))
 begun-record t k l m h e f =
     let a = front t ++ joined k (λ j. recordBytes (event t j)) in
@@ -82,11 +82,11 @@ begun-record t k l m h e f =
     ∙ ap (λ (r : List ℕ). front t ++ r) (sym (joined-more k (λ j. recordBytes (event t j)))))
 
 -- all records are set
-pub begun-records : (t : Table) (k : ℕ) (l : List ℕ) → k ≤ maxEvents → maxEvents ≤ k
+pub begun-records : (t : Table) (k : ℕ) (l : List ℕ) → k ≤ mostEvents one → mostEvents one ≤ k
     → l ≡ begun (front t ++ joined k (λ j. recordBytes (event t j))) → l ≡ begun (front t ++ recordsBytes t)
 unfolding recordsBytes
 begun-records t k l h g e =
-    let q : k ≡ maxEvents = omega arith in
+    let q : k ≡ mostEvents one = omega arith in
     e ∙ ap (λ (n : ℕ). begun (front t ++ joined n (λ j. recordBytes (event t j)))) q
 
 -- all fields but the check are set

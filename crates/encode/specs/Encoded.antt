@@ -2,7 +2,7 @@
 use Prim.Native.Nat.{ℕ, zero, suc, _/_, _%_}
 use mathlib.Core.List.{List, [], _∷_, _++_}
 use lib.ListN.{getD, replicate}
-use Rattle.edition.specs.Limits.{editionNumber, maxEvents, maxLocations}
+use Rattle.edition.specs.Limits.{one, editionNumber, maxLocations, mostEvents}
 use Rattle.table.specs.declared.Table.{Table}
 use Rattle.table.specs.Events.{event}
 use Rattle.checksum.specs.Checksum.{checksum}
@@ -31,7 +31,7 @@ markerBytes = 0x52 ∷ 0x56 ∷ 0x54 ∷ 0x31 ∷ []
 
 -- "4, 5, 6, 7 | edition 1; harts 1..4; locations 1..8; events 1..16"
 abbrev pub countBytes : Table → List ℕ
-countBytes t = editionNumber ∷ t .harts ∷ t .locations ∷ t .count ∷ []
+countBytes t = editionNumber one ∷ t .harts ∷ t .locations ∷ t .count ∷ []
 
 -- "8 | mask of locations whose final value is stated"
 abbrev pub statedBytes : Table → List ℕ
@@ -47,7 +47,7 @@ initialBytes t = valueBytes (t .initial)
 
 -- "32..287 | event records, 16 bytes each"
 unfoldable pub recordsBytes : Table → List ℕ
-recordsBytes t = joined maxEvents (λ k. recordBytes (event t k))
+recordsBytes t = joined (mostEvents one) (λ k. recordBytes (event t k))
 
 -- "288..303 | stated final values, two bytes a location"
 abbrev pub finalBytes : Table → List ℕ

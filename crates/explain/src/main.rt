@@ -3,20 +3,21 @@ use console::Command;
 use console::Filled;
 use console::Line;
 use edition::EditionOne;
-use edition::EventNo;
-use edition::LocationNo;
+use edition::EditionTwo;
 use reads_from::INITIALLY;
 use reads_from::NOTHING;
 use table::Event;
+use table::EventNo;
+use table::LocationNo;
 use table::Table;
 use verdict::Axiom;
 use verdict::Verdict;
 
 // Longer than a candidate, so that one that is too long is refused.
-const INPUT: usize = 1024;
+const INPUT: usize = EditionTwo::TEST + 2 * EditionTwo::EVENTS + 1;
 
 // No returned list is longer.
-const LIST: usize = 32;
+const LIST: usize = EditionTwo::EVENTS;
 
 const RULES: u8 = 13;
 
@@ -28,7 +29,7 @@ explain: the verdict of the RISC-V memory model for one candidate, in words
     explain <CANDIDATE
 
 CANDIDATE is, one after the other:
-  the block            512 bytes, a test with its stated outcome
+  the test             a block of 512 bytes, or three of them in edition 2: a test with its stated outcome
   the returned list    a byte for each event: the event whose write a reader returns from, 255 for the initial value,
                        and 254 for an event that doesn't read
   the order            a byte for each memory event: the global memory order, by event numbers
@@ -159,9 +160,9 @@ fn preserved_order(t: Table, a: EventNo, b: EventNo, set: u16) -> Line {
     describe(describe(said, t, a), t, b)
 }
 
-fn load_value(t: Table, block: &[u8], returned: &[u8], order: &[u8], r: EventNo) -> Line {
+fn load_value(t: Table, test: &[u8], returned: &[u8], order: &[u8], r: EventNo) -> Line {
     let mut list = [NOTHING; LIST];
-    bench::returns(block, order, &mut list);
+    bench::returns(test, order, &mut list);
     let reader = event(Line::output().text(b"load value: "), r).text(b" returns from ");
     let given = source(reader, entry(returned, r)).text(b", but the order makes it return from ");
     describe(source(given, entry(&list, r)), t, r)
@@ -207,34 +208,34 @@ fn final_value(t: Table, order: &[u8], x: LocationNo) -> Line {
     }
 }
 
-fn broken(axiom: Axiom, t: Table, block: &[u8], returned: &[u8], order: &[u8]) -> Line {
+fn broken(axiom: Axiom, t: Table, test: &[u8], returned: &[u8], order: &[u8]) -> Line {
     match axiom {
         Axiom::PreservedOrder(a, b, set) => preserved_order(t, a, b, set),
-        Axiom::LoadValue(r) => load_value(t, block, returned, order, r),
+        Axiom::LoadValue(r) => load_value(t, test, returned, order, r),
         Axiom::Atomicity(lr, w) => atomicity(t, returned, lr, w),
         Axiom::ValueRead(r) => value_read(t, returned, r),
         Axiom::FinalValue(x) => final_value(t, order, x),
     }
 }
 
-fn verdict(t: Table, block: &[u8], returned: &[u8], order: &[u8]) -> Line {
-    match bench::verdict(block, returned, order) {
+fn verdict(t: Table, test: &[u8], returned: &[u8], order: &[u8]) -> Line {
+    match bench::verdict(test, returned, order) {
         Verdict::Refused(r) => words::explained(Line::output(), r),
-        Verdict::Broken(axiom) => broken(axiom, t, block, returned, order),
+        Verdict::Broken(axiom) => broken(axiom, t, test, returned, order),
         Verdict::Allowed => {
             Line::output().text(b"allowed: the order gives the stated outcome and breaks no rule")
         }
     }
 }
 
-// The returned list has an entry for each event of the block, and what follows is the order. A block that is refused has
-// no event, and its refusal comes before those of the lists.
+// The input begins with the test, as a suite does. The returned list has an entry for each event of it, and what follows is the
+// order. A test that is refused has no event, and its refusal comes before those of the lists.
 fn candidate(input: &[u8]) {
-    let block = console::front(input, EditionOne::BLOCK);
-    let lists = console::past(input, EditionOne::BLOCK);
-    let t = bench::read(block).table;
+    let test = suite_walk::test(input, 0);
+    let lists = console::past(input, test.len());
+    let t = bench::read(test).table;
     let n = t.count as usize;
-    if !verdict(t, block, console::front(lists, n), console::past(lists, n)).end() {
+    if !verdict(t, test, console::front(lists, n), console::past(lists, n)).end() {
         console::output_failed(b"explain");
     }
 }

@@ -1,5 +1,5 @@
 // The global memory order, gmo: a list of event numbers.
-use edition::EventNo;
+use table::EventNo;
 ghost use mathlib.Core.Path.{_≡_};
 ghost use Rattle.lists.specs.Lists.{before};
 

@@ -7,7 +7,7 @@ use mathlib.Core.List.{List, [], _∷_, _++_}
 use lib.ListN.{length, replicate}
 use Rattle.lists.specs.Below.{below}
 use Rattle.lists.specs.Lists.{kept}
-use Rattle.edition.specs.Limits.{maxEvents}
+use Rattle.edition.specs.Limits.{Edition, one, two, mostEvents}
 use Rattle.table.specs.declared.Event.{Event}
 use Rattle.table.specs.declared.Table.{Table}
 use Rattle.refusals.specs.Lines.{Refused, accepted, firstLine}
@@ -185,9 +185,13 @@ orderedPairs t rf = pairsFrom t rf (below (t .count))
 abbrev pub namedWriter : Table → List ℕ → List ℕ → ℕ → List ℕ
 namedWriter t rf gmo l = kept (breaksAtomicity t rf gmo l) (atomicityWriter t rf gmo l) []
 
--- the refusal of a table by lines 5 to 11, with the most events that reading allows; extra: a byte that is no field and is named zero isn't
+-- the refusal of a table by lines 5 to 11, with the most events that the edition allows; extra: a byte that is no field and is
+-- named zero isn't
+abbrev pub refusalIn : Edition → Bool → Table → Refused
+refusalIn e extra t = firstLine (t .count) (tableLines (mostEvents e) extra t)
+
 abbrev pub refusal : Bool → Table → Refused
-refusal extra t = firstLine (t .count) (tableLines maxEvents extra t)
+refusal = refusalIn one
 
 -- What is stated of a case.
 pub data Claim : Type 0 where
@@ -219,6 +223,9 @@ pub data Claim : Type 0 where
   refuses : Refused → Table → Claim
   -- the refusal if, besides, a byte that is no field and is named zero isn't
   refusesWithBytes : Refused → Table → Claim
+  -- the same of edition 2
+  acceptsWide : Table → Claim
+  refusesWide : Refused → Table → Claim
 
 abbrev pub Right : Claim → Type 0
 Right (allWitnesses t ws) = witnesses t ≡ ws
@@ -236,6 +243,8 @@ Right (allClean t ps) = cleanPrefixes t ≡ ps
 Right (accepts t) = refusal false t ≡ accepted
 Right (refuses r t) = refusal false t ≡ r
 Right (refusesWithBytes r t) = refusal true t ≡ r
+Right (acceptsWide t) = refusalIn two false t ≡ accepted
+Right (refusesWide r t) = refusalIn two false t ≡ r
 
 -- lines 5 to 11 accept the table
 abbrev pub Passes : Table → Type 0
@@ -257,6 +266,8 @@ Accepted (allClean t ps) = Passes t
 Accepted (accepts t) = Unit {0}
 Accepted (refuses r t) = Unit {0}
 Accepted (refusesWithBytes r t) = Unit {0}
+Accepted (acceptsWide t) = Unit {0}
+Accepted (refusesWide r t) = Unit {0}
 
 abbrev pub Every : List Claim → Type 0
 Every [] = Unit {0}

@@ -8,7 +8,7 @@ use Rattle.refusals.specs.Lines.{byLine, byRecord}
 use Rattle.model.specs.Claims.{x, y, access, blankEvent, loads, stores, swaps, reserved, conditional, fences, fullFence, fencesTso}
 use Rattle.model.specs.Claims.{flagged, addressOn, dataOn, controlOn, operated, event0, event1, event2}
 use Rattle.model.specs.Claims.{acquireRCpc, acquireRCsc, releaseRCpc, releaseRCsc, filled, plainTest, valued}
-use Rattle.model.specs.Claims.{Claim, accepts, refuses, refusesWithBytes}
+use Rattle.model.specs.Claims.{Claim, accepts, refuses, refusesWithBytes, acceptsWide, refusesWide}
 
 -- two harts, two locations
 abbrev program : List Event → Table
@@ -21,6 +21,10 @@ alone e = program (e ∷ [])
 -- a load before it
 abbrev second : Event → Table
 second e = program (loads 0 x 0 ∷ e ∷ [])
+
+-- 29 loads before it
+abbrev thirtieth : Event → Table
+thirtieth e = plainTest 1 1 (replicate 29 (loads 0 x 0) ++ (e ∷ []))
 
 -- an LR before it
 abbrev secondOfPair : Event → Table
@@ -43,6 +47,12 @@ line5Cases =
     ∷ refuses (byLine 5) (headed 5 1 0)
     ∷ refuses (byLine 5) (headed 1 0 0)
     ∷ refuses (byLine 5) (headed 1 9 0)
+    -- "Events run from 1 to 30; edition 1 keeps 16."
+    ∷ acceptsWide (plainTest 1 1 (replicate 1 (loads 0 x 0)))
+    ∷ acceptsWide (plainTest 1 1 (replicate 17 (loads 0 x 0)))
+    ∷ acceptsWide (plainTest 1 1 (replicate 30 (loads 0 x 0)))
+    ∷ refusesWide (byLine 5) (plainTest 1 1 (replicate 31 (loads 0 x 0)))
+    ∷ refusesWide (byLine 5) (plainTest 1 1 [])
     -- the mask: bit k names location k
     ∷ accepts (headed 1 1 1)
     ∷ accepts (headed 1 2 2)
@@ -303,6 +313,12 @@ line9Cases =
     ∷ refuses (byRecord 9 1) (second (addressOn (2 ^ 31) (loads 0 y 0)))
     ∷ refuses (byRecord 9 1) (second (dataOn (2 ^ 31) (stores 0 y 1)))
     ∷ refuses (byRecord 9 1) (second (controlOn (2 ^ 31) (loads 0 y 0)))
+    -- "Mask bits 30 and 31 are 9"
+    ∷ acceptsWide (thirtieth (addressOn (2 ^ 28) (loads 0 x 0)))
+    ∷ refusesWide (byRecord 9 29) (thirtieth (addressOn (2 ^ 30) (loads 0 x 0)))
+    ∷ refusesWide (byRecord 9 29) (thirtieth (addressOn (2 ^ 31) (loads 0 x 0)))
+    ∷ refusesWide (byRecord 9 29) (thirtieth (dataOn (2 ^ 30) (stores 0 x 1)))
+    ∷ refusesWide (byRecord 9 29) (thirtieth (controlOn (2 ^ 31) (loads 0 x 0)))
     -- a plain store, a fence, fence.tso
     ∷ refuses (byRecord 9 1) (program (stores 0 x 1 ∷ addressOn event0 (loads 0 y 0) ∷ []))
     ∷ refuses (byRecord 9 1) (program (fullFence 0 ∷ addressOn event0 (loads 0 y 0) ∷ []))

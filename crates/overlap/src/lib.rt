@@ -1,7 +1,7 @@
 // Overlapping-address orderings: rules 1 to 3. x is event a, y is event b.
-use edition::EventNo;
 use reads_from::returned_from;
 use table::Event;
+use table::EventNo;
 use table::Kind;
 use table::Table;
 ghost use Prim.Native.Nat.{_≤_, _<_};

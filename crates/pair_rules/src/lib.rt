@@ -1,6 +1,6 @@
 // The answer on a table that was read and a pair of events: the rules by which one is before the other.
-use edition::EventNo;
 use refusals::Refusal;
+use table::EventNo;
 use table::Table;
 ghost use mathlib.Core.Path.{_≡_};
 ghost use lib.ListN.{length};

@@ -1,8 +1,8 @@
 // Pipeline dependencies: rules 12 and 13. x is event a, y is event b, z is event m.
 use dependencies::rule9;
 use dependencies::rule10;
-use edition::EventNo;
 use reads_from::returned_from;
+use table::EventNo;
 use table::Table;
 ghost use Prim.Native.Nat.{_≤_, _<_};
 ghost use mathlib.Core.Path.{_≡_};

@@ -1,7 +1,7 @@
 // The static part of preserved program order (static ppo) of a table, as the engine's masks.
-use edition::EventNo;
 use masks::one_if;
 use successors::SLOTS;
+use table::EventNo;
 use table::Table;
 ghost use Prim.Native.Nat.{_≤_, _<_};
 ghost use mathlib.Core.Path.{_≡_};

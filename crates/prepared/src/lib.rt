@@ -1,11 +1,11 @@
 // Who reads and who writes where, as masks: with those of crate `value_masks`, what the quick test of an order's values reads
 // in place of the table, prepared once for each test. A table by value is copied at each call, so each function goes over the
 // events itself.
-use edition::EventNo;
 use masks::one;
 use masks::one_if;
 use table::CAPACITY;
 use table::Event;
+use table::EventNo;
 use table::LOCATIONS;
 use table::Table;
 ghost use Prim.Native.Nat.{_≤_};

@@ -87,7 +87,7 @@ fn turn(k: u64) -> bool {
         Input::End => false,
         Input::Byte(b) => {
             let n = console::wide(b) % 256 + 256 * (console::byte_or_zero() % 256);
-            let mut buffer = [0u8; calls::BLOCK];
+            let mut buffer = [0u8; calls::TEST];
             frame(k, n as usize, &mut buffer);
             true
         }

@@ -1,5 +1,5 @@
 // The returned list, rf (reads-from): for each event the number of the write that it returned from.
-use edition::EventNo;
+use table::EventNo;
 ghost use Prim.Native.Nat.{_<_};
 ghost use mathlib.Core.Path.{_≡_};
 ghost use lib.ListN.{length};

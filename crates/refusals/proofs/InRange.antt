@@ -1,8 +1,8 @@
 -- What a table that line 5 doesn't refuse has.
 use Prim.Native.Nat.{ℕ, _≤_}
-use mathlib.Core.Path.{_≡_}
+use mathlib.Core.Path.{_≡_, refl}
 use mathlib.Core.Bool.{false, _||_}
-use borrow.Author.Tests.{ltb-false}
+use borrow.Author.Tests.{ltb-false, le-ltb}
 use lib.Dec.{eqb, ltb}
 use Rattle.lists.proofs.BoolLaws.{or-off}
 use Rattle.edition.specs.Limits.{maxHarts, maxLocations}
@@ -25,3 +25,11 @@ in-range most t h =
   where
     up-to : (n m : ℕ) → outside n m ≡ false → n ≤ m
     up-to n m h = ltb-false m n (or-off (eqb n 0) (ltb m n) h .1)
+
+-- nor does line 5 where as many events are allowed as it has
+pub fewer-in-range : (most fewer : ℕ) (t : Table) → line5 most t ≡ false → t .count ≤ fewer → line5 fewer t ≡ false
+unfolding line5
+fewer-in-range most fewer t h l =
+    let a = or-off (outside (t .harts) maxHarts || outside (t .locations) maxLocations || outside (t .count) most) (statesMissing t) h in
+    let b = or-off (outside (t .harts) maxHarts || outside (t .locations) maxLocations) (outside (t .count) most) (a .0) in
+    rw (b .0, or-off (eqb (t .count) 0) (ltb most (t .count)) (b .1) .0, le-ltb fewer (t .count) l, a .1) refl

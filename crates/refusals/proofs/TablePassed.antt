@@ -1,6 +1,6 @@
 -- What a table has that none of lines 5 to 11 refuses.
-use Prim.Native.Nat.{ℕ}
-use mathlib.Core.Path.{_≡_}
+use Prim.Native.Nat.{ℕ, _≤_}
+use mathlib.Core.Path.{_≡_, sym}
 use mathlib.Core.Bool.{Bool, true, false, _||_}
 use mathlib.Core.List.{[], _∷_}
 use borrow.Author.Tests.{not-false}
@@ -10,8 +10,8 @@ use Rattle.table.specs.declared.Table.{Table}
 use Rattle.table.specs.Events.{memory}
 use Rattle.refusals.specs.Lines.{accepted, firstLine}
 use Rattle.refusals.specs.TableLines.{line5, line6, line7, line8, line9, line10, line11, recordLines, tableLines}
-use Rattle.refusals.proofs.LineLaws.{whole-off, record-off}
-use Rattle.refusals.proofs.InRange.{InRange, in-range}
+use Rattle.refusals.proofs.LineLaws.{whole-next, whole-off, record-off}
+use Rattle.refusals.proofs.InRange.{InRange, in-range, fewer-in-range}
 
 -- line by line
 pub record TablePassed (most : ℕ) (extra : Bool) (t : Table) : Type 0 where
@@ -45,3 +45,14 @@ table-passed most extra t h =
       pairs = past10 .0;
       memory = not-false _ (past11 .0);
     }
+
+-- it isn't refused where as many events are allowed as it has, and no other bytes are looked at
+pub fewer-passed : (most fewer : ℕ) (extra : Bool) (t : Table) → firstLine (t .count) (tableLines most extra t) ≡ accepted → t .count ≤ fewer
+    → firstLine (t .count) (tableLines fewer false t) ≡ accepted
+unfolding tableLines
+fewer-passed most fewer extra t h l =
+    let past5 = whole-off (t .count) 5 (line5 most t) _ h in
+    let past6 = whole-off (t .count) 6 (extra || line6 t) _ (past5 .1) in
+    sym
+    (whole-next _ 5 (line5 fewer t) _ _ (fewer-in-range most fewer t (past5 .0) l)
+    (whole-next _ 6 (line6 t) _ _ (or-off extra (line6 t) (past6 .0) .1) (sym (past6 .1))))

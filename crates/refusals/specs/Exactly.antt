@@ -17,7 +17,7 @@ abbrev pub NoneHolds : ℕ → List Line → Type 0
 NoneHolds n ls = (l : Line) → l ∈ ls → holds n l ≡ false
 
 -- the refusal is that of a line which holds, at its lowest record, and no line before it holds; or none holds. The lines stand
--- in the order of their numbers.
+-- in the paper's order.
 abbrev pub Exactly : ℕ → List Line → Refused → Type 0
 Exactly n ls accepted = NoneHolds n ls
 Exactly n ls (byLine k) = (before : List Line) × (later : List Line) × (ls ≡ before ++ (whole k true ∷ later)) × NoneHolds n before

@@ -1,5 +1,5 @@
 -- The code's refusal in the paper's numbers.
-use Rattle.edition.specs.declared.EventNo.{EventNo}
+use Rattle.table.specs.declared.EventNo.{EventNo}
 use Rattle.refusals.specs.declared.Refusal.{Refusal}
 use Rattle.refusals.specs.declared.Refusal.the-variants.{None, Line, Record}
 use Rattle.refusals.specs.Lines.{Refused, accepted, byLine, byRecord}

@@ -1,5 +1,5 @@
 // The table of refusals: its answers, and its test of a range. The lines themselves are the crates named so.
-use edition::EventNo;
+use table::EventNo;
 ghost use mathlib.Core.Path.{_≡_};
 ghost use Rattle.refusals.specs.TableLines.{outside};
 

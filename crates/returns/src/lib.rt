@@ -1,10 +1,10 @@
 // What an order makes each reader return, and the values that writes leave.
-use edition::EventNo;
-use edition::LocationNo;
 use global_order::before;
 use reads_from::INITIALLY;
 use reads_from::NOTHING;
 use table::Event;
+use table::EventNo;
+use table::LocationNo;
 use table::Table;
 ghost use Prim.Native.Nat.{_≤_, _<_};
 ghost use mathlib.Core.Path.{_≡_};

@@ -1,7 +1,7 @@
 // What the types say: each number of a table and each byte of a slice is within its type. The functions do nothing; their
 // promises hold of every value that the types allow.
-use edition::LocationNo;
 use table::Event;
+use table::LocationNo;
 use table::Table;
 ghost use Prim.Native.Nat.{_^_, _<_};
 ghost use mathlib.Core.Path.{_≡_};

@@ -9,7 +9,7 @@ ghost use Rattle.refusals.specs.Lines.{unless};
 ghost use Rattle.refusals.specs.Refusals.{refusalOf};
 ghost use Rattle.block.specs.Reading.{noTable};
 ghost use Rattle.writer.specs.Writing.{writeRefusal, writtenBlock};
-ghost use Rattle.round_trip.specs.Trips.{rewriteRefusal};
+ghost use Rattle.round_trip.specs.Trips.{rewriteRefusal, rewritten};
 
 // Writes a table's block and reads it: what isn't refused as a table isn't refused as a block, and is that table.
 pub fn write_then_read(t: Table, out: &mut [u8]) -> Reading
@@ -26,10 +26,10 @@ pub fn write_then_read(t: Table, out: &mut [u8]) -> Reading
     }
 }
 
-// Reads a block and writes what was read: the same bytes.
+// Reads a test and writes what was read: the same bytes, if it is of edition 1.
 pub fn read_then_write(bytes: &[u8], out: &mut [u8]) -> Refusal
     ensures { λ r. ⌜ refusalOf r ≡ rewriteRefusal (now (bytes .entry)) (now (out .entry)) ⌝ }
-    ensures { λ r. ⌜ now (out .exit) ≡ unless (rewriteRefusal (now (bytes .entry)) (now (out .entry))) (now (bytes .entry)) (now (out .entry)) ⌝ }
+    ensures { λ r. ⌜ now (out .exit) ≡ unless (rewriteRefusal (now (bytes .entry)) (now (out .entry))) (rewritten (now (bytes .entry))) (now (out .entry)) ⌝ }
 {
     fits::bytes(bytes);
     let reading = block::read(bytes);

@@ -3,7 +3,6 @@
 use dependencies::rule9;
 use dependencies::rule10;
 use dependencies::rule11;
-use edition::EventNo;
 use overlap::rule1;
 use overlap::rule2;
 use overlap::rule3;
@@ -16,6 +15,7 @@ use synchronization::rule5;
 use synchronization::rule6;
 use synchronization::rule7;
 use synchronization::rule8;
+use table::EventNo;
 use table::Table;
 ghost use Prim.Native.Nat.{_≤_, _<_};
 ghost use mathlib.Core.Path.{_≡_};

@@ -1,10 +1,10 @@
 // Load value, the values read, the final values: the lowest place where each is broken.
-use edition::EventNo;
-use edition::LocationNo;
 use reads_from::returned_from;
 use returns::final_value;
 use returns::return_of;
 use returns::written_value;
+use table::EventNo;
+use table::LocationNo;
 use table::Table;
 ghost use Prim.Native.Nat.{_≤_, _<_};
 ghost use mathlib.Core.Path.{_≡_};

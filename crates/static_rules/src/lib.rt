@@ -3,7 +3,6 @@
 use dependencies::rule9;
 use dependencies::rule10;
 use dependencies::rule11;
-use edition::EventNo;
 use overlap::rule1;
 use pipeline::rule13;
 use synchronization::rule4;
@@ -12,6 +11,7 @@ use synchronization::rule6;
 use synchronization::rule7;
 use synchronization::rule8;
 use table::Event;
+use table::EventNo;
 use table::Kind;
 use table::Table;
 ghost use Prim.Native.Nat.{_≤_, _<_};

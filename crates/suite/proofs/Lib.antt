@@ -1,1 +1,2 @@
 pub mod SuiteLaws
+pub mod HeldLaws

@@ -1,1 +1,2 @@
 pub mod SuiteLine
+pub mod Held

@@ -7,6 +7,7 @@
 use Prim.Native.Nat.{ℕ}
 use mathlib.Core.List.{List, [], _++_}
 use lib.ListN.{replicate}
+use Rattle.edition.specs.Limits.{two, mostEvents}
 use Rattle.lists.specs.Reply.{Reply, refused, answered}
 use Rattle.refusals.specs.Lines.{Refused}
 use Rattle.prefixes.specs.Answer.{Answer, found, noneLeft, spent}
@@ -26,14 +27,18 @@ abbrev pub replyText : Reply Refused Answer → List ℕ
 replyText (refused r) = ascii "refused " ++ decimal (numberOf r)
 replyText (answered a) = answerText a
 
--- "allowance 1,000,000 from the empty start"; the answer buffer has a byte for each event that a test may have
+-- the answer buffer: a byte for each event that a test of either edition may have
+abbrev pub noAnswer : List ℕ
+noAnswer = replicate (mostEvents two) 0
+
+-- "allowance 1,000,000 from the empty start"
 abbrev pub replyTo : List ℕ → Reply Refused Answer
-replyTo block = searchReply block [] (replicate 16 0) 1000000
+replyTo test = searchReply test [] noAnswer 1000000
 
--- the line of block k
+-- the line of a test; "a line shows the number of its test's first block"
 abbrev pub suiteLine : ℕ → List ℕ → List ℕ
-suiteLine k block = ascii "block " ++ decimal k ++ ascii ": " ++ replyText (replyTo block)
+suiteLine k test = ascii "block " ++ decimal k ++ ascii ": " ++ replyText (replyTo test)
 
--- the closing line
+-- the closing line; it "counts tests and refusals"
 abbrev pub closingLine : ℕ → List ℕ
 closingLine n = decimal n ++ ascii " blocks"

@@ -1,20 +1,29 @@
-// The suite program: for each block of standard input, one line as soon as its search is done; and how many blocks there were.
+// The suite program: for each test of standard input, one line as soon as its search is done; and how many tests there were.
+mod held;
+
 use console::Command;
 use console::Filled;
 use console::Line;
-use edition::EditionOne;
+use edition::EditionTwo;
+use held::Step;
 use search::Reply;
 use witness_walk::Ending;
 ghost use Prim.Native.Nat.{_≤_};
 ghost use mathlib.Core.Path.{_≡_};
 ghost use lib.ListN.{length};
+ghost use Rattle.edition.specs.Limits.{two, testLength};
+ghost use Rattle.suite_walk.specs.Tests.{testOf};
 ghost use Rattle.witness_walk.specs.Ending.{answerOf};
 ghost use Rattle.search.specs.Replies.{replyOf, lengthOf};
 ghost use Rattle.console.specs.Lines.{kept, AddsTo};
-ghost use Rattle.suite.specs.SuiteLine.{visited, answerText, replyText, suiteLine, closingLine};
+ghost use Rattle.suite.specs.Held.{Turned};
+ghost use Rattle.suite.specs.SuiteLine.{visited, noAnswer, answerText, replyText, suiteLine, closingLine};
 
-// How many prefixes a block's search may visit.
+// How many prefixes a test's search may visit.
 const ALLOWANCE: u64 = 1_000_000;
+
+// So many that the number of a test's first block is still a u64.
+const MOST_TESTS: u64 = u64::MAX / EditionTwo::BLOCKS as u64;
 
 fn visited(line: Line, n: u64) -> Line
     ensures { λ r. ⌜ AddsTo line (visited n) r ⌝ }
@@ -45,19 +54,27 @@ fn replied(line: Line, reply: Reply, answer: &[u8]) -> Line
     }
 }
 
-// The line of block k, before it ends. No order is longer than the answer buffer.
-fn decided(k: u64, bytes: &[u8]) -> Line
-    ensures { λ r. ⌜ kept r ≡ suiteLine k (now (bytes .entry)) ⌝ }
+// The line of the test that begins at block k, before it ends. No order is longer than the answer buffer.
+fn decided(k: u64, test: &[u8], answer: &mut [u8]) -> Line
+    requires { ⌜ now answer ≡ noAnswer ⌝ }
+    ensures { λ r. ⌜ kept r ≡ suiteLine k (now (test .entry)) ⌝ }
 {
-    let mut answer = [0u8; EditionOne::EVENTS];
-    let reply = bench::search(bytes, b"", &mut answer, ALLOWANCE);
+    let reply = bench::search(test, b"", answer, ALLOWANCE);
     let begun = Line::output().text(b"block ").number(k).text(b": ");
-    replied(begun, reply, &answer)
+    replied(begun, reply, answer)
 }
 
-// The line of block k; false if it was lost, which standard error then says.
-fn line(k: u64, bytes: &[u8]) -> bool {
-    let written = decided(k, bytes).end();
+// The line of the first test of the bytes held.
+fn first_line(k: u64, held: &[u8]) -> Line
+    ensures { λ r. ⌜ kept r ≡ suiteLine k (testOf (now (held .entry)) 0) ⌝ }
+{
+    let mut answer = [0u8; EditionTwo::EVENTS];
+    decided(k, suite_walk::test(held, 0), &mut answer)
+}
+
+// Writes it; false if it was lost, which standard error then says.
+fn line(k: u64, held: &[u8]) -> bool {
+    let written = first_line(k, held).end();
     if !written {
         console::output_failed(b"suite");
     }
@@ -65,16 +82,19 @@ fn line(k: u64, bytes: &[u8]) -> bool {
 }
 
 // What a turn did. Of a failure standard error was told.
-enum Effect {
-    Written,
+pub enum Effect {
+    Passed(Step),
     NoMore,
     Failed,
 }
 
-// Block k, whole or a last part.
-fn turn(k: u64) -> Effect {
-    let mut buffer = [0u8; EditionOne::BLOCK];
-    match console::fill(&mut buffer) {
+// The test that begins at block k.
+fn turn(k: u64, buffer: &mut [u8], held: usize) -> Effect
+    requires { ⌜ held ≤ length (now buffer) ⌝ }
+    requires { ⌜ testLength two ≤ length (now buffer) ⌝ }
+    ensures { λ r. ⌜ Turned held (now (buffer .entry)) (now (buffer .exit)) r ⌝ }
+{
+    match held::gather(buffer, held) {
         Filled::Failed => {
             console::input_failed(b"suite");
             Effect::Failed
@@ -82,8 +102,8 @@ fn turn(k: u64) -> Effect {
         Filled::Bytes(n) => {
             if n == 0 {
                 Effect::NoMore
-            } else if line(k, console::front(&buffer, n)) {
-                Effect::Written
+            } else if line(k, &buffer[..n]) {
+                Effect::Passed(held::pass(buffer, n))
             } else {
                 Effect::Failed
             }
@@ -91,7 +111,7 @@ fn turn(k: u64) -> Effect {
     }
 }
 
-// After n blocks.
+// After n tests.
 fn closing(n: u64) -> Line
     ensures { λ r. ⌜ kept r ≡ closingLine n ⌝ }
 {
@@ -105,16 +125,29 @@ fn last(n: u64) {
 }
 
 // The bound makes the loop end for the proof: nothing says that input does.
-fn suite() {
-    let mut k: u64 = 0;
-    while k < u64::MAX {
-        match turn(k) {
-            Effect::Written => k += 1,
+fn turns(buffer: &mut [u8])
+    requires { ⌜ testLength two ≤ length (now buffer) ⌝ }
+{
+    let mut held: usize = 0;
+    let mut block: u64 = 0;
+    let mut tests: u64 = 0;
+    while tests < MOST_TESTS {
+        match turn(block, buffer, held) {
+            Effect::Passed(step) => {
+                held = step.held;
+                block += step.blocks as u64;
+                tests += 1;
+            }
             Effect::NoMore => break,
             Effect::Failed => return,
         }
     }
-    last(k);
+    last(tests);
+}
+
+fn suite() {
+    let mut buffer = [0u8; EditionTwo::TEST];
+    turns(&mut buffer);
 }
 
 fn usage() {
@@ -124,10 +157,11 @@ suite: whether the RISC-V memory model allows the stated outcome of each of many
 
     suite <SUITE
 
-SUITE is any number of tests, each a block of 512 bytes. Each block gets a line as soon as it is decided, blocks are
-numbered from 0: 'allowed' with the first global memory order that gives the outcome, by event numbers; 'forbidden';
-'undecided', if 1,000,000 visited prefixes were not enough; or 'refused' with the number of the refusal. The last line
-has the number of blocks: it is missing if reading or writing failed, which standard error then says.
+SUITE is any number of tests, each a block of 512 bytes, or three blocks in edition 2. Each test gets a line as soon as it
+is decided, with the number of its first block, blocks being numbered from 0: 'allowed' with the first global memory order
+that gives the outcome, by event numbers; 'forbidden'; 'undecided', if 1,000,000 visited prefixes were not enough; or
+'refused' with the number of the refusal, and then the next block begins a test. The last line has the number of tests: it
+is missing if reading or writing failed, which standard error then says.
 ",
     );
     if !printed {

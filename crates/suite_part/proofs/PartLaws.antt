@@ -5,7 +5,7 @@ use mathlib.Core.Bool.{false}
 use mathlib.Core.Logic.{_↔_}
 use mathlib.Core.List.{List, [], _∷_, cons-ne-nil}
 use native.Mathlib.Omega.{arith}
-use lib.ListN.{length, take, drop, length-drop, drop-of-length-le}
+use lib.ListN.{length, take, drop, length-take, length-drop, drop-of-length-le}
 use lib.Seq.{take-all, take-nil}
 use borrow.Author.Tests.{ltb-false, le-ltb}
 use Rattle.edition.specs.Limits.{blockLength}
@@ -31,6 +31,13 @@ unfolding blockOf
 part-whole s k =
     let e : blockLength * k + blockLength - blockLength * k ≡ blockLength = omega arith in
     ap (λ (n : ℕ). take n (drop (blockLength * k) s)) e
+
+-- it has all the bytes of a block
+pub part-length : (s : List ℕ) (k : ℕ) (p : List ℕ) → blockLength * k + blockLength ≤ length s → p ≡ blockOf s k → blockLength ≤ length p
+unfolding blockOf
+part-length s k p h e =
+    let n = length-drop (blockLength * k) s in
+    omega (arith, ap length e, length-take blockLength (drop (blockLength * k) s), n)
 
 nothing-left : {A : Type 0} (n : ℕ) (l : List A) → take (suc n) l ≡ [] → length l ≡ 0
 nothing-left n [] e = refl

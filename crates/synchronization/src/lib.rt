@@ -1,6 +1,6 @@
 // Explicit synchronization: rules 4 to 8. x is event a, y is event b.
-use edition::EventNo;
 use table::Event;
+use table::EventNo;
 use table::Kind;
 use table::Table;
 ghost use Prim.Native.Nat.{_≤_, _<_};

@@ -1,7 +1,5 @@
 // A litmus test by value, laid out as in C. Fields are wide enough to hold what reading refuses.
 use edition::EditionOne;
-use edition::EventNo;
-use edition::LocationNo;
 use masks::one_if;
 ghost use Prim.Native.Nat.{_≤_, _<_};
 ghost use mathlib.Core.Path.{_≡_};
@@ -15,6 +13,13 @@ pub const CAPACITY: usize = 32;
 
 // Room for the locations of every edition.
 pub const LOCATIONS: usize = EditionOne::LOCATIONS;
+
+// A number of an event of the table.
+pub struct EventNo(pub u8);
+
+// A number of a location. The two can't be mixed.
+#[repr(C)]
+pub struct LocationNo(pub u8);
 
 // The kinds of events.
 pub struct Kind;

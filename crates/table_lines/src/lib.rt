@@ -1,6 +1,6 @@
 // Lines 5 to 11 of the table of refusals, each a test of the table, and the first that holds.
-use edition::EventNo;
 use refusals::Refusal;
+use table::EventNo;
 use table::Kind;
 use table::Table;
 ghost use Prim.Native.Nat.{_≤_};

@@ -1,9 +1,9 @@
 // The verdict for a candidate: a returned list, rf, and a global memory order, gmo.
 mod pairs;
 
-use edition::EventNo;
-use edition::LocationNo;
 use refusals::Refusal;
+use table::EventNo;
+use table::LocationNo;
 use table::Table;
 ghost use Prim.Native.Nat.{_≤_};
 ghost use mathlib.Core.Path.{_≡_};

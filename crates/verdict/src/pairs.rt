@@ -1,7 +1,7 @@
 // Preserved order: the lowest pair that the order breaks.
-use edition::EventNo;
 use global_order::before;
 use static_rules::may_order;
+use table::EventNo;
 use table::Table;
 ghost use Prim.Native.Nat.{_≤_, _<_};
 ghost use mathlib.Core.Path.{_≡_};

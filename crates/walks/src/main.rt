@@ -90,7 +90,7 @@ fn walk(k: u64, block: &[u8], start: &mut [u8], len: usize) -> usize {
 
 fn call(tag: u8, k: u64, block: &mut [u8], size: usize, start: &mut [u8], len: usize) -> Effect {
     if tag == calls::LEND {
-        return Effect::Lent(calls::block(block));
+        return Effect::Lent(calls::frame(block));
     }
     let bytes = console::front(block, size);
     if tag == SEARCH {
@@ -133,7 +133,7 @@ fn walks(block: &mut [u8], start: &mut [u8]) {
 }
 
 fn main() {
-    let mut block = [0u8; calls::BLOCK];
+    let mut block = [0u8; calls::TEST];
     let mut start = [0u8; calls::LIST];
     walks(&mut block, &mut start);
 }

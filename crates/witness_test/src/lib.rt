@@ -1,11 +1,11 @@
 // Whether a clean order is lawful: what is left to test are atomicity and the rules that look at what was returned.
-use edition::EventNo;
 use global_order::before;
 use overlap::rule2;
 use overlap::rule3;
 use pipeline::rule12;
 use static_rules::may_order;
 use successors::SLOTS;
+use table::EventNo;
 use table::Table;
 ghost use Prim.Native.Nat.{_≤_, _<_};
 ghost use mathlib.Core.Path.{_≡_};

@@ -1,18 +1,19 @@
-// Walks all witnesses of one block of standard input: a line each, and their number at the end.
+// Walks all witnesses of one test of standard input: a line each, and their number at the end.
 use console::Command;
 use console::Filled;
 use console::Line;
+use edition::EditionTwo;
 use search::Reply;
 use witness_walk::Ending;
 
 // How many prefixes a call may visit. A progress line is written when they are spent.
 const ALLOWANCE: u64 = 1_000_000;
 
-// Longer than a block, so that input that is too long is refused.
-const INPUT: usize = 1024;
+// Longer than any test, so that input that is too long is refused.
+const INPUT: usize = EditionTwo::TEST + 1;
 
 // No order and no returned list is longer.
-const LIST: usize = 32;
+const LIST: usize = EditionTwo::EVENTS;
 
 // Where a walk is: the prefix that its next call starts from, and how many witnesses and prefixes there were. It has ended
 // when a call said that none are left, or refused, or when a line was lost.
@@ -30,12 +31,12 @@ fn usage() {
         b"\
 witnesses: all global memory orders that give the stated outcome of a test
 
-    witnesses <BLOCK
+    witnesses <TEST
 
-BLOCK is one test, a block of 512 bytes. Each witness gets a line, in ascending order: its events by their numbers, and
-the event that each reader reads from, or 'initial' for the initial value. The last line has the number of witnesses and
-that of the prefixes visited: it is missing if reading or writing failed, which standard error then says. During long
-walks lines on standard error say how far the walk is.
+TEST is one test: a block of 512 bytes, or three of them in edition 2. Each witness gets a line, in ascending order: its
+events by their numbers, and the event that each reader reads from, or 'initial' for the initial value. The last line has
+the number of witnesses and that of the prefixes visited: it is missing if reading or writing failed, which standard error
+then says. During long walks lines on standard error say how far the walk is.
 ",
     );
     if !printed {
@@ -70,11 +71,11 @@ fn returned(line: Line, list: [u8; LIST]) -> Line {
     filled
 }
 
-fn witness(block: &[u8], walk: Walk) -> bool {
+fn witness(test: &[u8], walk: Walk) -> bool {
     let prefix = walk.prefix;
     let order = console::front(&prefix, walk.len);
     let mut list = [reads_from::NOTHING; LIST];
-    bench::returns(block, order, &mut list);
+    bench::returns(test, order, &mut list);
     let begun = Line::output()
         .text(b"witness ")
         .number(walk.witnesses)
@@ -111,7 +112,7 @@ fn last(walk: Walk) -> bool {
 }
 
 // What the walk is after a call that answered; and its line.
-fn answered(block: &[u8], walk: Walk, ending: Ending, answer: [u8; LIST]) -> Walk {
+fn answered(test: &[u8], walk: Walk, ending: Ending, answer: [u8; LIST]) -> Walk {
     let mut next = walk;
     match ending {
         Ending::Found { len, visited } => {
@@ -119,7 +120,7 @@ fn answered(block: &[u8], walk: Walk, ending: Ending, answer: [u8; LIST]) -> Wal
             next.len = len;
             next.witnesses = sum(walk.witnesses, 1);
             next.visited = sum(walk.visited, visited);
-            next.lost = !witness(block, next);
+            next.lost = !witness(test, next);
             next.ended = next.lost;
         }
         Ending::NoneLeft { visited } => {
@@ -138,23 +139,23 @@ fn answered(block: &[u8], walk: Walk, ending: Ending, answer: [u8; LIST]) -> Wal
 }
 
 // The next call of the walk.
-fn call(block: &[u8], walk: Walk) -> Walk {
+fn call(test: &[u8], walk: Walk) -> Walk {
     let start = walk.prefix;
     let len = walk.len;
     let mut answer = [0u8; LIST];
-    match bench::search(block, console::front(&start, len), &mut answer, ALLOWANCE) {
+    match bench::search(test, console::front(&start, len), &mut answer, ALLOWANCE) {
         Reply::Refused(r) => {
             let mut ended = walk;
             ended.ended = true;
             ended.lost = !words::explained(Line::output(), r).end();
             ended
         }
-        Reply::Answered(o) => answered(block, walk, o, answer),
+        Reply::Answered(o) => answered(test, walk, o, answer),
     }
 }
 
 // False if a line was lost. The bound makes the loop end for the proof.
-fn walk_all(block: &[u8]) -> bool {
+fn walk_all(test: &[u8]) -> bool {
     let mut walk = Walk {
         prefix: [0; LIST],
         len: 0,
@@ -165,7 +166,7 @@ fn walk_all(block: &[u8]) -> bool {
     };
     let mut calls: u64 = 0;
     while calls < u64::MAX && !walk.ended {
-        walk = call(block, walk);
+        walk = call(test, walk);
         calls += 1;
     }
     !walk.lost

@@ -6,7 +6,7 @@ use native.Mathlib.Nat.{mul-le-mul}
 use native.Mathlib.Omega.{arith}
 use lib.ListN.{length, getD, take}
 use lib.Seq.{take-at, take-all}
-use Rattle.edition.specs.Limits.{maxEvents, maxLocations}
+use Rattle.edition.specs.Limits.{one, maxLocations, mostEvents}
 use Rattle.table.specs.declared.Event.{Event}
 use Rattle.table.specs.declared.Table.{Table}
 use Rattle.table.specs.Events.{event}
@@ -62,7 +62,7 @@ bytes-record e f =
 bytes-records : (t : Table) → TableFits t → Bytes (recordsBytes t)
 unfolding recordsBytes
 bytes-records t f =
-    bytes-joined maxEvents (λ k. recordBytes (event t k)) (λ k l. bytes-record (event t k) (f .each k (omega arith)))
+    bytes-joined (mostEvents one) (λ k. recordBytes (event t k)) (λ k l. bytes-record (event t k) (f .each k (omega arith)))
 
 -- what the check covers is bytes
 bytes-covered : (t : Table) → TableFits t → Bytes (coveredBytes t)

@@ -10,7 +10,7 @@ use Rattle.lists.proofs.BoolLaws.{and-l, and-r, and-right, or-off}
 use Rattle.lists.proofs.SomeLaws.{some-none, none-at}
 use Rattle.masks.specs.Bit.{bit}
 use Rattle.masks.proofs.SubsetLaws.{past-limit}
-use Rattle.edition.specs.Limits.{maxEvents, maxLocations}
+use Rattle.edition.specs.Limits.{one, maxLocations, mostEvents}
 use Rattle.table.specs.declared.Event.{Event}
 use Rattle.table.specs.declared.Table.{Table}
 use Rattle.table.specs.Events.{capacity, noEvent, event, hart, kind, po}
@@ -49,21 +49,21 @@ past-blank t k h l m =
     blank-is (event t k) (not-false _ (rw (le-leb (t .count) k l) at e))
 
 -- a mask of 32 bits, none of them past the first 16
-mask-small : (m : ℕ) → m < 2 ^ 32 → ((x : ℕ) → maxEvents ≤ x → x < capacity → bit m x ≡ false) → m < 2 ^ 16
+mask-small : (m : ℕ) → m < 2 ^ 32 → ((x : ℕ) → mostEvents one ≤ x → x < capacity → bit m x ≡ false) → m < 2 ^ 16
 mask-small m h off =
-    let none : some capacity (λ x. bit m x && leb maxEvents x) ≡ false = some-none capacity (λ x. bit m x && leb maxEvents x) each in
-    let e : m / 2 ^ 16 ≡ 0 = eqb-true (m / 2 ^ 16) 0 (not-false (eqb (m / 2 ^ 16) 0) (sym (past-limit capacity maxEvents m h) ∙ none)) in
+    let none : some capacity (λ x. bit m x && leb (mostEvents one) x) ≡ false = some-none capacity (λ x. bit m x && leb (mostEvents one) x) each in
+    let e : m / 2 ^ 16 ≡ 0 = eqb-true (m / 2 ^ 16) 0 (not-false (eqb (m / 2 ^ 16) 0) (sym (past-limit capacity (mostEvents one) m h) ∙ none)) in
     omega (arith, e)
   where
-    each : (x : ℕ) → x < capacity → (bit m x && leb maxEvents x) ≡ false
-    each x l = go (leb maxEvents x) refl
+    each : (x : ℕ) → x < capacity → (bit m x && leb (mostEvents one) x) ≡ false
+    each x l = go (leb (mostEvents one) x) refl
       where
-        go : (b : Bool) → leb maxEvents x ≡ b → (bit m x && b) ≡ false
-        go true e = rw (off x (leb-true maxEvents x e) l) refl
+        go : (b : Bool) → leb (mostEvents one) x ≡ b → (bit m x && b) ≡ false
+        go true e = rw (off x (leb-true (mostEvents one) x e) l) refl
         go false e = and-right (bit m x) false refl
 
 -- record k of the test names no event past the first 16
-names-early : (t : Table) (k x : ℕ) → line9 t k ≡ false → k < maxEvents → maxEvents ≤ x → x < capacity → names t k x ≡ false
+names-early : (t : Table) (k x : ℕ) → line9 t k ≡ false → k < mostEvents one → mostEvents one ≤ x → x < capacity → names t k x ≡ false
 unfolding line9 namesWrongly po
 names-early t k x h l m n =
     let a = or-off (some capacity (namesWrongly t k) || dataOfNonWriter t k) (some (t .count) (lacksControl t k)) h .0 in
@@ -90,7 +90,7 @@ names-none t k x h =
     let b = or-off (bit (e .addr) x) (bit (e .«data») x) (a .0) in
     (b .0, b .1, a .1)
 
-masks-named : (t : Table) (k : ℕ) → EventFits (event t k) → ((x : ℕ) → maxEvents ≤ x → x < capacity → names t k x ≡ false) → MasksSmall (event t k)
+masks-named : (t : Table) (k : ℕ) → EventFits (event t k) → ((x : ℕ) → mostEvents one ≤ x → x < capacity → names t k x ≡ false) → MasksSmall (event t k)
 masks-named t k f off =
     record {
       addr = mask-small (event t k .addr) (f .addr) (λ x l m. names-none t k x (off x l m) .0);
@@ -100,17 +100,17 @@ masks-named t k f off =
 
 -- what reading a block of the table gives back relies on
 pub record Good (t : Table) : Type 0 where
-  pub masks : (k : ℕ) → k < maxEvents → MasksSmall (event t k)
-  pub past : (k : ℕ) → maxEvents ≤ k → k < capacity → event t k ≡ noEvent
+  pub masks : (k : ℕ) → k < mostEvents one → MasksSmall (event t k)
+  pub past : (k : ℕ) → mostEvents one ≤ k → k < capacity → event t k ≡ noEvent
 
-pub good : (t : Table) (extra : Bool) → TableFits t → firstLine (t .count) (tableLines maxEvents extra t) ≡ accepted → Good t
+pub good : (t : Table) (extra : Bool) → TableFits t → firstLine (t .count) (tableLines (mostEvents one) extra t) ≡ accepted → Good t
 good t extra f h =
     record { masks = λ k l. small k l (ltb k (t .count)) refl; past = λ k l m. past-blank t k (passed .unused) (omega (arith, passed .counts .events)) m }
   where
-    passed : TablePassed maxEvents extra t
-    passed = table-passed maxEvents extra t h
+    passed : TablePassed (mostEvents one) extra t
+    passed = table-passed (mostEvents one) extra t h
 
-    small : (k : ℕ) → k < maxEvents → (b : Bool) → ltb k (t .count) ≡ b → MasksSmall (event t k)
+    small : (k : ℕ) → k < mostEvents one → (b : Bool) → ltb k (t .count) ≡ b → MasksSmall (event t k)
     small k l true e =
         masks-named t k (f .each k (omega arith))
         (λ x m n. names-early t k x (none-at (t .count) (line9 t) k (passed .dependencies) (ltb-true k (t .count) e)) l m n)

@@ -4,7 +4,7 @@ use mathlib.Core.Path.{_≡_, refl, _∙_}
 use mathlib.Core.List.{List, _++_}
 use native.Mathlib.Omega.{arith}
 use lib.ListN.{length, getD, length-append}
-use Rattle.edition.specs.Limits.{maxEvents, maxLocations}
+use Rattle.edition.specs.Limits.{one, maxLocations, mostEvents}
 use Rattle.table.specs.declared.Table.{Table}
 use Rattle.table.specs.Events.{event}
 use Rattle.record_bytes.specs.RecordBytes.{two, recordBytes}
@@ -19,7 +19,7 @@ pub record Holds (s : List ℕ) (t : Table) : Type 0 where
   pub stated : Stands s 8 (statedBytes t)
   pub header : Stands s 9 headerZeros
   pub initial : (x : ℕ) → x < maxLocations → Stands s (16 + 2 * x) (two (getD (t .initial) x 0))
-  pub records : (k : ℕ) → k < maxEvents → Stands s (32 + 16 * k) (recordBytes (event t k))
+  pub records : (k : ℕ) → k < mostEvents one → Stands s (32 + 16 * k) (recordBytes (event t k))
   pub finals : (x : ℕ) → x < maxLocations → Stands s (288 + 2 * x) (two (getD (t .finals) x 0))
   pub tail : Stands s 304 tailZeros
 
@@ -33,13 +33,13 @@ unfolding valueBytes
 values-joined s vs at h = stands-joined s at 2 (λ y. two (getD vs y 0)) (λ y. refl) maxLocations h
 
 -- the records, each by itself
-records-apart : (s : List ℕ) (t : Table) → Stands s 32 (recordsBytes t) → (k : ℕ) → k < maxEvents → Stands s (32 + 16 * k) (recordBytes (event t k))
+records-apart : (s : List ℕ) (t : Table) → Stands s 32 (recordsBytes t) → (k : ℕ) → k < mostEvents one → Stands s (32 + 16 * k) (recordBytes (event t k))
 unfolding recordsBytes
-records-apart s t h k l = stands-each s 32 16 (λ j. recordBytes (event t j)) (λ j. length-record (event t j)) maxEvents k l h
+records-apart s t h k l = stands-each s 32 16 (λ j. recordBytes (event t j)) (λ j. length-record (event t j)) (mostEvents one) k l h
 
-records-joined : (s : List ℕ) (t : Table) → ((k : ℕ) → k < maxEvents → Stands s (32 + 16 * k) (recordBytes (event t k))) → Stands s 32 (recordsBytes t)
+records-joined : (s : List ℕ) (t : Table) → ((k : ℕ) → k < mostEvents one → Stands s (32 + 16 * k) (recordBytes (event t k))) → Stands s 32 (recordsBytes t)
 unfolding recordsBytes
-records-joined s t h = stands-joined s 32 16 (λ j. recordBytes (event t j)) (λ j. length-record (event t j)) maxEvents h
+records-joined s t h = stands-joined s 32 16 (λ j. recordBytes (event t j)) (λ j. length-record (event t j)) (mostEvents one) h
 
 -- where the final values and the zeros behind them begin
 length-to-finals : (t : Table) → length (front t ++ recordsBytes t) ≡ 288

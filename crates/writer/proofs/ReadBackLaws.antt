@@ -7,22 +7,23 @@ use native.Mathlib.Nat.{add-zero}
 use native.Mathlib.Omega.{arith}
 use lib.Dec.{ltb}
 use lib.ListN.{length, getD}
-use borrow.Author.Tests.{ltb-true, ltb-false, eq-eqb}
+use borrow.Author.Tests.{ltb-true, ltb-false, le-ltb, eq-eqb}
 use Rattle.lists.specs.Filled.{upTo}
 use Rattle.lists.proofs.FilledLaws.{upTo-same}
-use Rattle.edition.specs.Limits.{maxEvents, maxLocations}
+use Rattle.edition.specs.Limits.{one, blockLength, maxLocations, mostEvents}
 use Rattle.table.specs.declared.Event.{Event}
 use Rattle.table.specs.declared.Table.{Table}
 use Rattle.table.specs.Events.{capacity, noEvent, event}
 use Rattle.table.proofs.SameFields.{event-same, table-same}
 use Rattle.checksum.specs.Checksum.{checksum, covered}
 use Rattle.decode.specs.Layout.{byteAt, wordAt, recordAt, storedCheck}
-use Rattle.decode.specs.Decoded.{recordFrom, pickEvent, eventAt, initialOf, finalOf, decoded}
+use Rattle.decode.specs.Decoded.{recordFrom, pickEvent, eventAt, initialOf, finalOf, headed, decodedAs, decoded}
 use Rattle.refusals.specs.Lines.{Refused, accepted, firstLine, unless}
 use Rattle.refusals.specs.TableLines.{tableLines}
 use Rattle.refusals.proofs.LineLaws.{whole-next}
 use Rattle.zero_bytes.specs.ZeroBytes.{bytesNotZero}
-use Rattle.block.specs.Reading.{blockLines, readingLines, readRefusal, readTable, noTable}
+use Rattle.block.specs.Reading.{lengthLines, editionLines, editionRefusal, readRefusal, readTable, noTable}
+use Rattle.block.proofs.ReadingLaws.{states, no-later, edition-decides, as-one}
 use Rattle.record_bytes.specs.RecordBytes.{two, recordBytes}
 use Rattle.encode.specs.Encoded.{four, coveredBytes, checkBytes, encoded}
 use Rattle.encode.proofs.LengthLaws.{length-record, length-covered, length-encoded}
@@ -63,25 +64,25 @@ values-back s vs at f h =
 
 module _ (s : List ℕ) (t : Table) (h : Holds s t) (f : TableFits t) (g : Good t) where
   -- a slot
-  slot-back : (k : ℕ) → k < capacity → eventAt s k ≡ event t k
+  slot-back : (k : ℕ) → k < capacity → eventAt one s k ≡ event t k
   unfolding eventAt
-  slot-back k l = go (ltb k maxEvents) refl
+  slot-back k l = go (ltb k (mostEvents one)) refl
     where
-      go : (b : Bool) → ltb k maxEvents ≡ b → pickEvent b (recordFrom s (recordAt k)) noEvent ≡ event t k
-      go true e = record-back s (recordAt k) (event t k) (f .each k l) (g .masks k (ltb-true k maxEvents e)) (h .records k (ltb-true k maxEvents e))
-      go false e = sym (g .past k (ltb-false k maxEvents e) l)
+      go : (b : Bool) → ltb k (mostEvents one) ≡ b → pickEvent b (recordFrom s (recordAt k)) noEvent ≡ event t k
+      go true e = record-back s (recordAt k) (event t k) (f .each k l) (g .masks k (ltb-true k (mostEvents one) e)) (h .records k (ltb-true k (mostEvents one) e))
+      go false e = sym (g .past k (ltb-false k (mostEvents one) e) l)
 
   -- the table
-  pub decoded-back : decoded s ≡ t
-  unfolding decoded initialOf finalOf event
+  pub decoded-back : decodedAs one s ≡ t
+  unfolding decodedAs headed initialOf finalOf event
   decoded-back =
-      table-same (decoded s) t (h .counts 1 (omega arith)) (h .counts 2 (omega arith)) (h .counts 3 (omega arith)) (h .stated 0 (omega arith))
+      table-same (decodedAs one s) t (h .counts 1 (omega arith)) (h .counts 2 (omega arith)) (h .counts 3 (omega arith)) (h .stated 0 (omega arith))
       (values-back s (t .initial) 16 (f .initial) (h .initial))
-      (sym (upTo-same capacity (eventAt s) noEvent (t .events) (f .long) (λ k l. sym (slot-back k l))))
+      (sym (upTo-same capacity (eventAt one s) noEvent (t .events) (f .long) (λ k l. sym (slot-back k l))))
       (values-back s (t .finals) 288 (f .finals) (h .finals))
 
 -- no byte named zero isn't zero
-zeros-back : (s : List ℕ) (t : Table) → Holds s t → bytesNotZero s ≡ false
+zeros-back : (s : List ℕ) (t : Table) → Holds s t → bytesNotZero one s ≡ false
 unfolding bytesNotZero
 zeros-back s t h = rw (zeros-stand s 9 7 (h .header), zeros-stand s 304 204 (h .tail)) refl
 
@@ -102,22 +103,22 @@ check-back t f =
     four-back s n g = rw (g 0 (omega arith), g 1 (omega arith), g 2 (omega arith), g 3 (omega arith)) refl
 
 -- no line refuses it
-pub read-accepted : (t : Table) → TableFits t → Good t → firstLine (t .count) (tableLines maxEvents false t) ≡ accepted → readRefusal (encoded t) ≡ accepted
-unfolding readRefusal readingLines blockLines
+pub read-accepted : (t : Table) → TableFits t → Good t → firstLine (t .count) (tableLines (mostEvents one) false t) ≡ accepted → readRefusal (encoded t) ≡ accepted
+unfolding editionRefusal editionLines lengthLines
 read-accepted t f g h =
     let s = encoded t in
     let p = encoded-holds t in
-    let lines : firstLine (decoded s .count) (tableLines maxEvents (bytesNotZero s) (decoded s)) ≡ firstLine (t .count) (tableLines maxEvents false t) =
-    ap₂ (λ (b : Bool) (u : Table). firstLine (u .count) (tableLines maxEvents b u)) (zeros-back s t p) (decoded-back s t p f g) in
+    let lines : firstLine (decodedAs one s .count) (tableLines (mostEvents one) (bytesNotZero one s) (decodedAs one s)) ≡ firstLine (t .count) (tableLines (mostEvents one) false t) =
+    ap₂ (λ (b : Bool) (u : Table). firstLine (u .count) (tableLines (mostEvents one) b u)) (zeros-back s t p) (decoded-back s t p f g) in
     sym
-    (whole-next _ _ _ _ _ (ap not (eq-eqb _ _ (length-encoded t)))
-    (whole-next _ _ _ _ _ (ap not (eq-eqb _ _ (check-back t f)))
-    (whole-next _ _ _ _ _ (rw (p .marker 0 (omega arith), p .marker 1 (omega arith), p .marker 2 (omega arith), p .marker 3 (omega arith)) refl)
-    (whole-next _ _ _ _ _ (ap not (eq-eqb _ _ (p .counts 0 (omega arith))))
-    (sym (lines ∙ h))))))
+    (whole-next _ _ _ _ _ (ap not (eq-eqb _ _ (length-encoded t))) (whole-next _ _ _ _ _ (no-later s) (sym (lines ∙ h)))
+    ∙ edition-decides one s (le-ltb (length s) blockLength (omega (arith, length-encoded t))) (ap not (eq-eqb _ _ (check-back t f)))
+    (rw (p .marker 0 (omega arith), p .marker 1 (omega arith), p .marker 2 (omega arith), p .marker 3 (omega arith)) refl)
+    (p .counts 0 (omega arith)))
 
 -- and the table is given back
-pub read-table : (t : Table) → TableFits t → Good t → firstLine (t .count) (tableLines maxEvents false t) ≡ accepted → readTable (encoded t) ≡ t
+pub read-table : (t : Table) → TableFits t → Good t → firstLine (t .count) (tableLines (mostEvents one) false t) ≡ accepted → readTable (encoded t) ≡ t
 unfolding readTable
 read-table t f g h =
-    ap (λ (r : Refused). unless r (decoded (encoded t)) noTable) (read-accepted t f g h) ∙ decoded-back (encoded t) t (encoded-holds t) f g
+    ap (λ (r : Refused). unless r (decoded (encoded t)) noTable) (read-accepted t f g h)
+    ∙ as-one (encoded t) (states one (encoded t) (encoded-holds t .counts 0 (omega arith)) .0) ∙ decoded-back (encoded t) t (encoded-holds t) f g

@@ -5,7 +5,7 @@ use mathlib.Core.Bool.{false, not}
 use mathlib.Core.List.{List}
 use lib.ListN.{length}
 use borrow.Author.Tests.{eq-eqb, ne-eqb}
-use Rattle.edition.specs.Limits.{maxEvents, blockLength}
+use Rattle.edition.specs.Limits.{one, blockLength, mostEvents}
 use Rattle.table.specs.declared.Table.{Table}
 use Rattle.refusals.specs.Lines.{Refused, byLine, firstLine, unless}
 use Rattle.refusals.specs.TableLines.{tableLines}
@@ -31,7 +31,7 @@ module _ (t : Table) (out : List ℕ) (h : length out ≡ blockLength → ⊥) w
   left-short = writes t out (byLine 1) out refused-short refl .1
 
 -- it has 512 bytes: lines 5 to 11 decide
-pub writes-whole : (t : Table) (out : List ℕ) (r : Refused) (now : List ℕ) → length out ≡ blockLength → r ≡ firstLine (t .count) (tableLines maxEvents false t)
+pub writes-whole : (t : Table) (out : List ℕ) (r : Refused) (now : List ℕ) → length out ≡ blockLength → r ≡ firstLine (t .count) (tableLines (mostEvents one) false t)
     → now ≡ unless r (encoded t) out → Writes t out r now
 unfolding writeRefusal writingLines
 writes-whole t out r now h e f = writes t out r now (whole-next _ _ _ _ _ (ap not (eq-eqb _ _ h)) e) f

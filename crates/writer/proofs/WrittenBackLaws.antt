@@ -1,7 +1,7 @@
 -- A block that isn't refused is that of the table that it holds.
 use Prim.Native.Nat.{ℕ, _+_, _*_, _<_, _≤_}
 use mathlib.Core.Path.{_≡_, refl, sym, ap, subst, _∙_}
-use mathlib.Core.Bool.{Bool, false, not, _||_}
+use mathlib.Core.Bool.{Bool, true, false, not, _&&_, _||_, false≢true}
 use mathlib.Core.List.{List, [], _++_}
 use native.Mathlib.Nat.{add-zero}
 use native.Mathlib.Omega.{arith}
@@ -11,18 +11,19 @@ use lib.Seq.{length-take-le, getD-take}
 use borrow.Author.Tests.{lt-ltb, eqb-true, not-false}
 use Rattle.lists.proofs.BoolLaws.{or-off}
 use Rattle.lists.proofs.FilledLaws.{getD-upTo}
-use Rattle.edition.specs.Limits.{editionNumber, maxEvents, maxLocations, blockLength}
+use Rattle.edition.specs.Limits.{Edition, one, editionNumber, maxLocations, blockLength, mostEvents}
 use Rattle.table.specs.declared.Event.{Event}
 use Rattle.table.specs.Events.{capacity, noEvent, event}
 use Rattle.checksum.specs.Checksum.{checksum, covered}
-use Rattle.decode.specs.Layout.{byteAt, wordAt, editionAt, recordAt, storedCheck}
-use Rattle.decode.specs.Decoded.{recordFrom, eventAt, initialOf, finalOf, decoded}
+use Rattle.decode.specs.Layout.{byteAt, wordAt, editionAt, recordAt, storedCheck, secondIf, editionOf}
+use Rattle.decode.specs.Decoded.{recordFrom, eventAt, initialOf, finalOf, headed, decodedAs, decoded}
 use Rattle.refusals.specs.Lines.{accepted, firstLine}
 use Rattle.refusals.specs.TableLines.{tableLines}
 use Rattle.refusals.proofs.LineLaws.{whole-off}
+use Rattle.refusals.proofs.TablePassed.{table-passed, fewer-passed}
 use Rattle.zero_bytes.specs.ZeroBytes.{headerZeros, tailZeros, bytesNotZero}
-use Rattle.block.specs.Reading.{line1, line2, line3, line4, blockLines, readRefusal}
-use Rattle.block.proofs.ReadingLaws.{passed-parts, passed-table}
+use Rattle.block.specs.Reading.{line1, line2, line3, line4, lengthWrong, headerLines, lengthLines, editionRefusal, readRefusal}
+use Rattle.block.proofs.ReadingLaws.{passed-header, passed-edition, as-one}
 use Rattle.record_bytes.specs.RecordBytes.{two, codeBytes, maskBytes, operationBytes, recordBytes}
 use Rattle.encode.specs.Encoded.{four, markerBytes, countBytes, statedBytes, coveredBytes, checkBytes, encoded}
 use Rattle.encode.proofs.LengthLaws.{length-covered, length-encoded}
@@ -32,35 +33,50 @@ use Rattle.writer.proofs.NumberLaws.{word-low, word-high, long-0, long-
 use Rattle.writer.proofs.HoldsLaws.{Holds, holds-all}
 use Rattle.writer.proofs.CheckLaws.{bytes-at, check-front}
 
--- what holds of a block that isn't refused, line by line
+-- what holds of an edition 1 block that isn't refused, line by line
 pub record Passed (s : List ℕ) : Type 0 where
   pub long : length s ≡ blockLength
   pub check : storedCheck s ≡ checksum s
   pub marker : line3 s ≡ false
-  pub edition : byteAt s editionAt ≡ editionNumber
-  pub zero : bytesNotZero s ≡ false
-  pub lines : firstLine (decoded s .count) (tableLines maxEvents false (decoded s)) ≡ accepted
+  pub edition : byteAt s editionAt ≡ editionNumber one
+  pub table : decoded s ≡ decodedAs one s
+  pub zero : bytesNotZero one s ≡ false
+  pub lines : firstLine (decodedAs one s .count) (tableLines (mostEvents one) false (decodedAs one s)) ≡ accepted
 
 equal-of : (a b : ℕ) → not (eqb a b) ≡ false → a ≡ b
 equal-of a b h = eqb-true a b (not-false (eqb a b) h)
 
-pub passed : (s : List ℕ) → readRefusal s ≡ accepted → Passed s
-unfolding blockLines
-passed s h =
-    let t = decoded s in
-    let both = passed-parts s h in
-    let past1 = whole-off (t .count) 1 (line1 s) _ (both .0) in
-    let past2 = whole-off (t .count) 2 (line2 s) _ (past1 .1) in
-    let past3 = whole-off (t .count) 3 (line3 s) _ (past2 .1) in
-    let past4 = whole-off (t .count) 4 (line4 s) [] (past3 .1) in
-    let zero = passed-table s h .bytes in
+-- bytes that state no edition but 1, and no unknown one
+states-one : (s : List ℕ) → editionOf s ≡ one → line4 s ≡ false → byteAt s editionAt ≡ editionNumber one
+unfolding editionOf
+states-one s h k = go (eqb (byteAt s editionAt) (editionNumber one)) (eqb (byteAt s editionAt) 2) refl h k
+  where
+    go : (a b : Bool) → eqb (byteAt s editionAt) (editionNumber one) ≡ a → secondIf b ≡ one → (not a && not b) ≡ false
+        → byteAt s editionAt ≡ editionNumber one
+    go true b e h k = eqb-true (byteAt s editionAt) (editionNumber one) e
+    go false true e h k = let n : _≡_ {A = ℕ} 2 1 = ap editionNumber h in absurd (omega (arith, n))
+    go false false e h k = absurd (false≢true (sym k))
+
+pub passed : (s : List ℕ) → editionOf s ≡ one → readRefusal s ≡ accepted → Passed s
+unfolding headerLines lengthLines
+passed s o h =
+    let both = passed-header s h in
+    let past1 = whole-off (decoded s .count) 1 (line1 s) _ (both .0) in
+    let past2 = whole-off (decoded s .count) 2 (line2 s) _ (past1 .1) in
+    let past3 = whole-off (decoded s .count) 3 (line3 s) _ (past2 .1) in
+    let past4 = whole-off (decoded s .count) 4 (line4 s) [] (past3 .1) in
+    let edition = passed-edition one s (subst (λ (e : Edition). editionRefusal e s ≡ accepted) o (both .1)) in
+    let long = whole-off (decodedAs one s .count) 1 (lengthWrong one s) _ (edition .0) in
+    let t = decodedAs one s in
+    let passed = table-passed (mostEvents one) (bytesNotZero one s) t (edition .1) in
     record {
-      long = equal-of (length s) blockLength (past1 .0);
+      long = equal-of (length s) blockLength (long .0);
       check = equal-of (storedCheck s) (checksum s) (past2 .0);
       marker = past3 .0;
-      edition = equal-of (byteAt s editionAt) editionNumber (past4 .0);
-      zero = zero;
-      lines = subst (λ (b : Bool). firstLine (t .count) (tableLines maxEvents b t) ≡ accepted) zero (both .1);
+      edition = states-one s o (past4 .0);
+      table = as-one s o;
+      zero = passed .bytes;
+      lines = fewer-passed (mostEvents one) (mostEvents one) (bytesNotZero one s) t (edition .1) (passed .counts .events);
     }
 
 module _ (s : List ℕ) (bytes : Bytes s) where
@@ -90,14 +106,14 @@ module _ (s : List ℕ) (bytes : Bytes s) where
       stands-both s (codeBytes e ++ maskBytes e ++ two (e .read) ++ two (e .written)) (operationBytes e) at (at + 14) (omega arith) to-operation operation
 
   -- slot k of the table is record k
-  slot-is : (k : ℕ) → k < maxEvents → recordFrom s (recordAt k) ≡ event (decoded s) k
-  unfolding event decoded eventAt
+  slot-is : (k : ℕ) → k < mostEvents one → recordFrom s (recordAt k) ≡ event (decodedAs one s) k
+  unfolding event decodedAs headed eventAt
   slot-is k l =
-      sym (getD-upTo capacity (eventAt s) k noEvent (omega arith) ∙ rw (lt-ltb k maxEvents l) refl)
+      sym (getD-upTo capacity (eventAt one s) k noEvent (omega arith) ∙ rw (lt-ltb k (mostEvents one) l) refl)
 
   -- each part of the layout stands at its place
-  holds-decoded : Passed s → Holds s (decoded s)
-  unfolding decoded bytesNotZero initialOf finalOf
+  holds-decoded : Passed s → Holds s (decodedAs one s)
+  unfolding decodedAs headed bytesNotZero initialOf finalOf
   holds-decoded p =
       let zeroed = or-off (headerZeros s) (tailZeros s) (p .zero) in
       let byte : (i n : ℕ) → Bool = λ i n. not (eqb (byteAt s i) n) in
@@ -106,8 +122,8 @@ module _ (s : List ℕ) (bytes : Bytes s) where
       let m1 = or-off (byte 0 0x52) (byte 1 0x56) (m2 .0) in
       record {
         marker = entries-stand s 0 markerBytes (equal-of _ _ (m1 .0), (equal-of _ _ (m1 .1), (equal-of _ _ (m2 .1), (equal-of _ _ (m3 .1), tt))));
-        counts = entries-stand s 4 (countBytes (decoded s)) (p .edition, (refl, (refl, (refl, tt))));
-        stated = entries-stand s 8 (statedBytes (decoded s)) (refl, tt);
+        counts = entries-stand s 4 (countBytes (decodedAs one s)) (p .edition, (refl, (refl, (refl, tt))));
+        stated = entries-stand s 8 (statedBytes (decodedAs one s)) (refl, tt);
         header = stands-zeros s 9 7 (zeroed .0);
         initial = λ x l. subst (λ (v : ℕ). Stands s (16 + 2 * x) (two v)) (sym (getD-upTo maxLocations (initialOf s) x 0 l)) (two-stand (16 + 2 * x));
         records = λ k l. subst (λ (e : Event). Stands s (32 + 16 * k) (recordBytes e)) (slot-is k l) (record-stands (32 + 16 * k));
@@ -140,11 +156,12 @@ stands-front s l n e h g =
 pub encoded-back : (s : List ℕ) → Bytes s → Passed s → encoded (decoded s) ≡ s
 unfolding encoded checkBytes
 encoded-back s bytes p =
-    let t = decoded s in
+    let t = decodedAs one s in
     let front = holds-all s t (holds-decoded s bytes p) in
     let taken = stands-front s (coveredBytes t) covered (length-covered t) (omega (arith, p .long)) front in
     let check : storedCheck s ≡ checksum (coveredBytes t) = p .check ∙ sym (check-front s (coveredBytes t) taken (length-covered t)) in
-    sym
+    ap encoded (p .table)
+    ∙ sym
     (stands-all s (encoded t) (p .long ∙ sym (length-encoded t))
     (stands-both s (coveredBytes t) (checkBytes t) 0 covered (omega (arith, length-covered t)) front
     (subst (λ (n : ℕ). Stands s covered (four n)) check (four-stand s bytes))))

@@ -1,11 +1,11 @@
 // Reads a stream of tables (the fields in their order, then the length of a buffer, two bytes) and prints what writing each to
 // such a buffer gives.
 use console::Input;
-use edition::LocationNo;
 use refusals::Refusal;
 use table::CAPACITY;
 use table::Event;
 use table::LOCATIONS;
+use table::LocationNo;
 use table::Table;
 
 // No buffer of a stream is longer.

@@ -1,14 +1,13 @@
-//! One valid table, and for each clause of the lines 3 to 10 changes of its block's bytes
+//! One valid table of edition 1, and for each clause of the lines 3 to 10 changes of its block's bytes
 //! that break the clause.
 
+use super::damage::Change;
 use crate::encode::{encode, seal};
-use crate::layout::{field::*, *};
+use crate::layout::one::{field::*, *};
+use crate::layout::*;
 use crate::litmus::*;
 use crate::operation::Operation::{self, Add, And, Larger, Or, Smaller, Xor};
 use crate::table::{Line, Table, ACQUIRE_RCSC, PR, RELEASE_RCPC, SW};
-
-/// A byte's place and its new value.
-type Change = (usize, u8);
 
 #[derive(Clone, Copy)]
 pub struct Breach {
@@ -93,7 +92,7 @@ const MARKER_BREACHES: &[&[Change]] = &[
 ];
 
 const EDITION_BREACHES: &[&[Change]] =
-    &[&[(EDITION_AT, 0)], &[(EDITION_AT, 2)], &[(EDITION_AT, 9)], &[(EDITION_AT, 255)]];
+    &[&[(EDITION_AT, 0)], &[(EDITION_AT, 3)], &[(EDITION_AT, 9)], &[(EDITION_AT, 255)]];
 
 const RANGES_BREACHES: &[&[Change]] = &[
     &[(HARTS_AT, 0)],

@@ -2,14 +2,17 @@
 
 use super::breaches::{base, base_block, breaches};
 use super::cases::*;
+use super::chains::chain_cases;
 use super::decided::decided;
+use super::edition_two::refused_by_each_line;
 use super::operations::{mixed_operation_cases, operation_cases};
 use super::orders::*;
 use super::prng::Prng;
 use super::random::random_table;
 use crate::candidate::{encode_entry, INITIAL, NON_READER};
 use crate::candidates::{LEND, RETURNED, RULES, VERDICT};
-use crate::encode::encode;
+use crate::encode::{encode, encode_fitting};
+use crate::layout::one::MAX_EVENTS;
 use crate::layout::*;
 use crate::litmus::{self, *};
 use crate::rules::{determined_returns, RULE_COUNT};
@@ -19,6 +22,7 @@ use std::collections::BTreeSet;
 
 const SEED: u64 = 2;
 const RANDOM_TABLES: usize = 160;
+const WIDE_TABLES: usize = 30;
 const ROUNDS: usize = 3;
 /// Pairs of a random table that are asked for with one returned list.
 const SOME_PAIRS: usize = 4;
@@ -81,7 +85,8 @@ pub fn make_candidates() -> Calls {
     buffer_lengths(&mut calls);
     let mut prng = Prng::new(SEED);
     for _ in 0..RANDOM_TABLES {
-        random_calls(&mut calls, &mut prng);
+        let table = contended_table(&mut prng);
+        random_calls(&mut calls, &mut prng, table);
     }
     for (name, test) in atomicity_place_cases() {
         every_order(&mut calls, name, &test);
@@ -91,7 +96,65 @@ pub fn make_candidates() -> Calls {
         calls.lend(&encode(&case.table));
         both_entries(&mut calls, case.name, &case.table, &case.order);
     }
+    candidates_in_two(&mut calls, &mut prng);
     calls
+}
+
+/// Candidates of tables with more events than edition 1 has room for.
+fn candidates_in_two(calls: &mut Calls, prng: &mut Prng) {
+    for (name, test) in chain_cases() {
+        chain_calls(calls, name, &test);
+    }
+    last_events(calls);
+    for test in refused_by_each_line() {
+        calls.lend(&test);
+        calls.verdict("refused-reading", &[INITIAL; 17], &[0; 17]);
+        calls.returned("refused-reading-and-buffer", &[0; 17], 0);
+        calls.rules("refused-reading-and-length", &[], 0, u64::MAX);
+    }
+    for _ in 0..WIDE_TABLES {
+        let table = wide_contended_table(prng);
+        random_calls(calls, prng, table);
+    }
+}
+
+/// The order of a chain's table, that with its last two events the other way round, and the rules
+/// between neighbours.
+fn chain_calls(calls: &mut Calls, name: &str, table: &Table) {
+    let order = table.memory_events();
+    let mut swapped = order.clone();
+    swapped.swap(order.len() - 2, order.len() - 1);
+    calls.lend(&encode_fitting(table));
+    both_entries(calls, name, table, &order);
+    both_entries(calls, name, table, &swapped);
+    let returned = returned_list(table, &order);
+    for pair in order.windows(2) {
+        calls.rules(name, &returned, pair[0] as u64, pair[1] as u64);
+    }
+}
+
+/// Numbers, entries and buffer lengths about that of the last of thirty events, a load that stands
+/// behind a store of its location.
+fn last_events(calls: &mut Calls) {
+    let mut test = table(vec![load(0, X, 0); MOST_EVENTS]);
+    test.events[MOST_EVENTS - 2] = store(0, X, 1);
+    test.events[MOST_EVENTS - 1] = load(0, X, 1);
+    let order = test.memory_events();
+    let returned = returned_list(&test, &order);
+    calls.lend(&encode_fitting(&test));
+    for number in 27..=33 {
+        calls.rules("last-events", &returned, 28, number);
+        calls.rules("last-events", &returned, number, 29);
+        let mut changed = returned.clone();
+        changed[MOST_EVENTS - 1] = number as u8;
+        calls.verdict("last-events-entry", &changed, &bytes(&order));
+        calls.returned("last-events-buffer", &bytes(&order), number as usize);
+        let mut changed = bytes(&order);
+        changed[MOST_EVENTS - 1] = number as u8;
+        calls.verdict("last-events-order", &returned, &changed);
+    }
+    calls.verdict("last-events-lengths", &returned[1..], &bytes(&order));
+    calls.verdict("last-events-lengths", &returned, &bytes(&order[1..]));
 }
 
 /// Tests of which every order and every pair are asked for.
@@ -405,14 +468,20 @@ pub fn contended_table(prng: &mut Prng) -> Table {
     random_table(prng, harts, locations, events)
 }
 
+/// Such a table with more events than edition 1 has room for.
+pub fn wide_contended_table(prng: &mut Prng) -> Table {
+    let (harts, locations) = (1 + prng.below(MAX_HARTS), 1 + prng.below(3));
+    let events = MAX_EVENTS + 1 + prng.below(MOST_EVENTS - MAX_EVENTS);
+    random_table(prng, harts, locations, events)
+}
+
 /// Random candidates of one table, most of them consistent or nearly so.
-fn random_calls(calls: &mut Calls, prng: &mut Prng) {
-    let mut table = contended_table(prng);
+fn random_calls(calls: &mut Calls, prng: &mut Prng, mut table: Table) {
     let lawful = lawful_order(prng, &table);
     if let Some(order) = &lawful {
         choose_outcome(prng, &mut table, order);
     }
-    calls.lend(&encode(&table));
+    calls.lend(&encode_fitting(&table));
     if let Some(order) = &lawful {
         both_entries(calls, "random-lawful", &table, order);
     }

@@ -3,7 +3,8 @@
 use super::breaches::base;
 use super::damage::changed;
 use crate::encode::encode;
-use crate::layout::{field::*, *};
+use crate::layout::one::{field::*, *};
+use crate::layout::*;
 use crate::litmus::*;
 use crate::table::{Event, Kind, Table, ALL_FLAGS};
 

@@ -3,14 +3,17 @@
 pub mod breaches;
 pub mod candidates;
 pub mod cases;
+pub mod chains;
 pub mod damage;
 pub mod decided;
+pub mod edition_two;
 pub mod kinds;
 pub mod operations;
 pub mod orders;
 pub mod prng;
 pub mod random;
 pub mod readings;
+pub mod suites;
 pub mod walks;
 pub mod writes;
 

@@ -1,6 +1,7 @@
 //! Random tables that reading accepts.
 
 use super::prng::Prng;
+use crate::layout::one::MAX_EVENTS;
 use crate::layout::*;
 use crate::litmus;
 use crate::operation::Operation;
@@ -65,6 +66,14 @@ pub fn any_table(prng: &mut Prng) -> Table {
     let harts = 1 + prng.below(MAX_HARTS);
     let locations = 1 + prng.below(MAX_LOCATIONS);
     let events = 1 + prng.below(MAX_EVENTS);
+    random_table(prng, harts, locations, events)
+}
+
+/// A table of any shape with more events than edition 1 has room for.
+pub fn wide_table(prng: &mut Prng) -> Table {
+    let harts = 1 + prng.below(MAX_HARTS);
+    let locations = 1 + prng.below(MAX_LOCATIONS);
+    let events = MAX_EVENTS + 1 + prng.below(MOST_EVENTS - MAX_EVENTS);
     random_table(prng, harts, locations, events)
 }
 

@@ -2,12 +2,14 @@
 
 use super::breaches::{base_block, breaches, Breach};
 use super::damage::{changed, operation_byte};
+use super::edition_two::readings_in_two;
 use super::kinds::{control_clauses, each_byte, fields_out_of_range};
 use super::operations::operation_edges;
 use super::prng::Prng;
 use super::random::{any_table, random_table};
 use crate::encode::{encode, seal};
-use crate::layout::{field::*, *};
+use crate::layout::one::{field::*, *};
+use crate::layout::*;
 use crate::litmus::{self, *};
 use crate::stream::push_frame;
 use crate::table::{Event, Table, ALL_FLAGS, PR, SW};
@@ -45,6 +47,7 @@ pub fn make_readings() -> Vec<u8> {
         each_byte(),
         fields_out_of_range(),
         control_clauses().iter().map(encode).collect(),
+        readings_in_two(),
     ];
     let mut stream = Vec::new();
     for frame in families.concat() {
@@ -256,7 +259,7 @@ fn breaches_of_one_line() -> Vec<Vec<u8>> {
 }
 
 /// Two of the lines 7 to 10, the later line's record before, at and after the other's.
-fn breaches_of_two_records() -> Vec<Vec<u8>> {
+pub fn breaches_of_two_records() -> Vec<Vec<u8>> {
     let mut of_records = breaches();
     of_records.retain(|breach| breach.record.is_some());
     let lines: Vec<&[Breach]> = of_records.chunk_by(|a, b| a.line == b.line).collect();
@@ -305,7 +308,7 @@ fn fences_only() -> Vec<Vec<u8>> {
         encode(&fences)[..BLOCK_LENGTH - 1].to_vec(),
         wrong_check,
         changed(&fences, &[(0, 0)]),
-        changed(&fences, &[(EDITION_AT, 2)]),
+        changed(&fences, &[(EDITION_AT, 3)]),
         changed(&fences, &[(EVENTS_AT, 17)]),
         changed(&fences, &[(EVENTS_AT, 1)]),
         changed(&fences, &[(record_at(1) + FLAGS, 1)]),
@@ -323,7 +326,7 @@ fn damaged_table(prng: &mut Prng, number: usize) -> Vec<u8> {
     let table = any_table(prng);
     let at = match number % 4 {
         0 => prng.below(CHECK_AT),
-        1 => operation_byte(prng, &table),
+        1 => operation_byte(Edition::One, prng, &table),
         _ => prng.below(TAIL_ZEROS.start),
     };
     let value = prng.bits() as u8;
@@ -337,7 +340,7 @@ pub fn random_block(prng: &mut Prng, number: usize) -> Vec<u8> {
     block[..MARKER.len()].copy_from_slice(&MARKER);
     let right = number % 4;
     if right >= 2 {
-        block[EDITION_AT] = EDITION;
+        block[EDITION_AT] = Edition::One as u8;
     }
     if right >= 3 {
         block[HARTS_AT..STATED_AT].copy_from_slice(&[4, 8, 16]);

@@ -2,13 +2,16 @@
 
 use super::breaches::{base, base_block, breaches};
 use super::cases::atomicity_place_cases;
+use super::chains::{chain_cases, chained_table};
 use super::decided::decided_cases;
+use super::edition_two::refused_by_each_line;
 use super::operations::{mixed_operation_cases, operation_cases};
 use super::orders::{bytes, lawful_order, linear_extension, permutation, state_outcome};
 use super::prng::Prng;
-use super::random::random_table;
+use super::random::{random_table, wide_table};
 use crate::candidates::LEND;
-use crate::encode::encode;
+use crate::encode::{encode, encode_fitting};
+use crate::layout::one::MAX_EVENTS;
 use crate::layout::*;
 use crate::litmus::{self, *};
 use crate::rules::steady_rules;
@@ -24,6 +27,9 @@ const RANDOM_TABLES: usize = 560;
 const FEW_EVENTS: usize = 7;
 /// Tables of any size, of which a walk sees only the first prefixes.
 const LARGE_TABLES: usize = 30;
+/// Random tables of edition 2 that are chains, each walked in one way, and others.
+const RANDOM_CHAINS: usize = 42;
+const WIDE_TABLES: usize = 10;
 /// No walk makes more calls than this.
 const MOST_CALLS: usize = 60;
 /// Calls of a table that aren't made to the end.
@@ -39,7 +45,7 @@ struct Calls {
 
 impl Calls {
     fn lend(&mut self, table: &Table) {
-        self.lend_bytes(encode(table), table.memory_events().len());
+        self.lend_bytes(encode_fitting(table), table.memory_events().len());
     }
 
     fn lend_bytes(&mut self, block: Vec<u8>, memory_events: usize) {
@@ -94,7 +100,28 @@ pub fn make_walks() -> Vec<u8> {
     for (_, test) in [decided_cases(), atomicity_place_cases()].concat() {
         walk_by_witnesses(&mut calls, prng, &test);
     }
+    walks_in_two(&mut calls, prng);
     calls.stream
+}
+
+/// Tables of more events than edition 1 has room for: chains, whose lists are short, and others, of
+/// which a walk sees only the first prefixes. And tests of edition 2 that reading declines.
+fn walks_in_two(calls: &mut Calls, prng: &mut Prng) {
+    for (_, test) in chain_cases() {
+        walk_by_witnesses(calls, prng, &test);
+        edges_of_the_first_answer(calls, prng, &test);
+    }
+    for number in 0..RANDOM_CHAINS {
+        let table = chained_table(prng);
+        WAYS[number % WAYS.len()](calls, prng, &table);
+    }
+    for _ in 0..WIDE_TABLES {
+        let table = wide_table(prng);
+        first_prefixes(calls, prng, table);
+    }
+    for test in refused_by_each_line() {
+        refused_walk(calls, prng, test, MOST_EVENTS);
+    }
 }
 
 /// Ways to walk a table.
@@ -179,7 +206,7 @@ fn any_allowance(prng: &mut Prng) -> u64 {
 /// The first answer's visited number as the allowance, and numbers next to it.
 fn edges_of_the_first_answer(calls: &mut Calls, _: &mut Prng, table: &Table) {
     calls.lend(table);
-    let answer = search(&calls.block, &[], &mut [0; MAX_EVENTS], MAX_ALLOWANCE);
+    let answer = search(&calls.block, &[], &mut [0; MOST_EVENTS], MAX_ALLOWANCE);
     if let Ok(Answer::Found { visited, .. } | Answer::NoneLeft { visited }) = answer {
         for allowance in [visited - 1, visited, visited + 1] {
             calls.search(&[], calls.memory_events, allowance);
@@ -240,7 +267,12 @@ fn large_table_walk(calls: &mut Calls, prng: &mut Prng) {
     let harts = 1 + prng.below(MAX_HARTS);
     let locations = 1 + prng.below(MAX_LOCATIONS);
     let events = FEW_EVENTS + 1 + prng.below(MAX_EVENTS - FEW_EVENTS);
-    let mut table = random_table(prng, harts, locations, events);
+    let table = random_table(prng, harts, locations, events);
+    first_prefixes(calls, prng, table);
+}
+
+/// Some calls of a walk on a table that may have many prefixes.
+fn first_prefixes(calls: &mut Calls, prng: &mut Prng, mut table: Table) {
     // The first lawful order is likely far off; that of table order is met at once.
     let table_order = table.memory_events();
     state_outcome(&mut table, &table_order);
@@ -308,11 +340,16 @@ fn refused_tables(calls: &mut Calls, prng: &mut Prng) {
     }
     let memory_events = base().memory_events().len();
     for block in blocks {
-        calls.lend_bytes(block, memory_events);
-        for _ in 0..3 {
-            calls.walk(any_buffer_length(prng, memory_events), any_allowance(prng));
-        }
-        calls.search(&[0], memory_events, 1);
-        calls.search(&[255], 0, u64::MAX);
+        refused_walk(calls, prng, block, memory_events);
     }
+}
+
+/// Calls of a walk on a test that reading declines, and single ones.
+fn refused_walk(calls: &mut Calls, prng: &mut Prng, test: Vec<u8>, memory_events: usize) {
+    calls.lend_bytes(test, memory_events);
+    for _ in 0..3 {
+        calls.walk(any_buffer_length(prng, memory_events), any_allowance(prng));
+    }
+    calls.search(&[0], memory_events, 1);
+    calls.search(&[255], 0, u64::MAX);
 }

@@ -7,9 +7,11 @@ use super::operations::operation_edges;
 use super::prng::Prng;
 use super::random::any_table;
 use crate::encode::encode;
-use crate::layout::{BLOCK_LENGTH, MAX_EVENTS, MAX_LOCATIONS};
+use crate::layout::one::MAX_EVENTS;
+use crate::layout::{BLOCK_LENGTH, LONGEST_TEST, MAX_LOCATIONS, MOST_EVENTS};
 use crate::litmus::{self, *};
-use crate::raw::{RawEvent, RawTable, SLOTS};
+use crate::raw::{RawTable, SLOTS};
+use crate::record::RawEvent;
 use crate::table::Table;
 
 const SEED: u64 = 4;
@@ -37,6 +39,12 @@ pub fn make_writes() -> Vec<u8> {
     let controls = control_clauses().iter().map(encode).collect();
     for block in [fields_out_of_range(), controls].concat() {
         push_call(&mut stream, &RawTable::of_block(&block), BLOCK_LENGTH);
+    }
+    for table in thirty_events() {
+        push_call(&mut stream, &table, BLOCK_LENGTH);
+    }
+    for table in [raw(&base()), thirty_events()[0].clone()] {
+        push_call(&mut stream, &table, LONGEST_TEST);
     }
     stream
 }
@@ -104,6 +112,12 @@ fn past_a_block() -> Vec<RawTable> {
             event.address = 1 << 31;
         }),
     ]
+}
+
+/// Tables that reading gives of edition 2, from 17 to 30 events: "more than 16 events is 5".
+fn thirty_events() -> Vec<RawTable> {
+    let loads = |count: usize| RawTable::from(&table(vec![load(0, X, 0); count]));
+    (MAX_EVENTS + 1..=MOST_EVENTS).map(loads).collect()
 }
 
 fn fences_only() -> Vec<RawTable> {

@@ -6,13 +6,14 @@ use lib.ListN.{length, take, length-set}
 use borrow.Author.Needs.{needs}
 use Rattle.lists.specs.Filled.{upTo}
 use Rattle.lists.proofs.FilledLaws.{upTo-more, upTo-done}
+use Rattle.edition.specs.Limits.{one}
 use Rattle.table.specs.Events.{capacity}
 use Rattle.decode.specs.Decoded.{eventAt}
 use Rattle.decode.proofs.events.Statement.{statement}
 use Rattle.decode.proofs.events.Tie as tie
 
 abbrev Inv-loop : tie.InvT-loop
-Inv-loop s list₀ k₀ list k = (k ≤ capacity) × (length list ≡ capacity) × (take k list ≡ upTo k (eventAt s))
+Inv-loop s list₀ k₀ list k = (k ≤ capacity) × (length list ≡ capacity) × (take k list ≡ upTo k (eventAt one s))
 
 abbrev μ-loop : tie.MeasureT-loop
 μ-loop s list₀ k₀ list k = capacity - k

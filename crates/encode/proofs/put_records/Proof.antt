@@ -5,7 +5,7 @@ use mathlib.Core.List.{_++_}
 use native.Mathlib.Omega.{arith}
 use lib.ListN.{length}
 use borrow.Author.Needs.{needs}
-use Rattle.edition.specs.Limits.{maxEvents}
+use Rattle.edition.specs.Limits.{one, mostEvents}
 use Rattle.table.specs.Events.{event}
 use Rattle.record_bytes.specs.RecordBytes.{recordBytes}
 use Rattle.encode.specs.Encoded.{joined}
@@ -16,10 +16,10 @@ use Rattle.encode.proofs.put_records.Tie as tie
 
 abbrev Inv-loop : tie.InvT-loop
 Inv-loop block₀ t k₀ block k =
-    (k ≤ maxEvents) × (length block ≡ length block₀) × (block ≡ begun (front t ++ joined k (λ (j : ℕ). recordBytes (event t j))))
+    (k ≤ mostEvents one) × (length block ≡ length block₀) × (block ≡ begun (front t ++ joined k (λ (j : ℕ). recordBytes (event t j))))
 
 abbrev μ-loop : tie.MeasureT-loop
-μ-loop block₀ t k₀ block k = maxEvents - k
+μ-loop block₀ t k₀ block k = mostEvents one - k
 
 loop-holds : tie.Need-loop-holds Inv-loop μ-loop
 loop-holds c =

@@ -7,7 +7,7 @@ abbrev Inv-loop : tie.InvT-loop
 Inv-loop list filled₀ e₀ filled e = Unit {0}
 
 abbrev μ-loop : tie.MeasureT-loop
-μ-loop list filled₀ e₀ filled e = 32 - e
+μ-loop list filled₀ e₀ filled e = 30 - e
 
 loop-holds : tie.Need-loop-holds Inv-loop μ-loop
 loop-holds c = search needs

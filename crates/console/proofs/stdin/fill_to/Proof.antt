@@ -1,16 +1,18 @@
 use Prim.Native.Nat.{_-_, _≤_}
-use mathlib.Core.Path.{_≡_}
-use lib.ListN.{length}
+use mathlib.Core.Path.{_≡_, _∙_}
+use lib.ListN.{length, take}
 use native.Mathlib.Omega.{arith}
+use Rattle.console.proofs.PartLaws.{front-kept}
 use borrow.Author.Needs.{needs}
-use Rattle.console.proofs.stdin.fill.Statement.{statement}
-use Rattle.console.proofs.stdin.fill.Tie as tie
+use Rattle.console.proofs.stdin.fill_to.Statement.{statement}
+use Rattle.console.proofs.stdin.fill_to.Tie as tie
 
 abbrev Inv-loop : tie.InvT-loop
-Inv-loop buffer₀ n₀ buffer n = (n ≤ length buffer) × (length buffer ≡ length buffer₀)
+Inv-loop buffer₀ held most n₀ buffer n =
+    (held ≤ n) × (n ≤ length buffer) × (length buffer ≡ length buffer₀) × (take held buffer ≡ take held buffer₀)
 
 abbrev μ-loop : tie.MeasureT-loop
-μ-loop buffer₀ n₀ buffer n = length buffer - n
+μ-loop buffer₀ held most n₀ buffer n = most - n
 
 loop-holds : tie.Need-loop-holds Inv-loop μ-loop
 loop-holds c = search needs
@@ -49,7 +51,9 @@ same-length-2 : tie.Need-same-length-2 Inv-loop μ-loop
 same-length-2 c = search needs
 
 returns-2 : tie.Need-returns-2 Inv-loop μ-loop
-returns-2 c = search needs
+returns-2 c =
+    let v = c .before .before .before .before .before .before .before .before .before .before .loop in
+    (omega arith, omega arith, front-kept _ _ _ _ (v .inv .0) (v .inv .1) ∙ v .inv .3)
 
 add-n : tie.Need-add-n Inv-loop μ-loop
 add-n c = search needs
@@ -58,7 +62,9 @@ loop-less : tie.Need-loop-less Inv-loop μ-loop
 loop-less c = search needs
 
 loop-again : tie.Need-loop-again Inv-loop μ-loop
-loop-again c = search needs
+loop-again c =
+    let v = c .before .before .before .before .before .before .before .before .before .before .loop in
+    (omega arith, search needs, search needs, front-kept _ _ _ _ (v .inv .0) (v .inv .1) ∙ v .inv .3)
 
 same-length-3 : tie.Need-same-length-3 Inv-loop μ-loop
 same-length-3 c = search needs
@@ -66,8 +72,8 @@ same-length-3 c = search needs
 returns-3 : tie.Need-returns-3 Inv-loop μ-loop
 returns-3 c = search needs
 
-pub fill-spec : {M : Type 1} → statement M
-fill-spec =
+pub fill-to-spec : {M : Type 1} → statement M
+fill-to-spec =
     tie.close
     (tie.spec
     Inv-loop
