@@ -2,6 +2,7 @@
 use Prim.Native.Nat.{ℕ, zero, suc}
 use mathlib.Core.Path.{_≡_, refl, sym, _∙_}
 use mathlib.Core.Bool.{Bool, true, false, _&&_, _||_, not, xor, true≢false, false≢true}
+use mathlib.Core.Logic.{_⊎_, inl, inr}
 use lib.Dec.{eqb, eqb·zero-suc, eqb·suc-zero, eqb·suc-suc}
 
 -- a test that passed drops out of a conjunction
@@ -98,10 +99,45 @@ pub or-off : (s t : Bool) → (s || t) ≡ false → (s ≡ false) × (t ≡ fal
 or-off true t h = absurd (true≢false h)
 or-off false t h = (refl, h)
 
+pub or-l : (s t : Bool) → (s || t) ≡ false → s ≡ false
+or-l s t h = or-off s t h .0
+
+pub or-r : (s t : Bool) → (s || t) ≡ false → t ≡ false
+or-r s t h = or-off s t h .1
+
+-- neither of two tests passes
+pub neither : (s t : Bool) → (not s && not t) ≡ not (s || t)
+neither true t = refl
+neither false t = refl
+
+-- one side of a disjunction that holds does
+pub or-cases : (s t : Bool) → (s || t) ≡ true → (s ≡ true) ⊎ (t ≡ true)
+or-cases true t h = inl refl
+or-cases false t h = inr h
+
+-- no test both passes and fails
+pub not-either : (s : Bool) → s ≡ true → s ≡ false → ⊥
+not-either s h k = true≢false (sym h ∙ k)
+
+-- one that can't pass fails
+pub is-false : (s : Bool) → (s ≡ true → ⊥) → s ≡ false
+is-false true h = absurd (h refl)
+is-false false h = refl
+
+-- one that can't fail passes
+pub is-true : (s : Bool) → (s ≡ false → ⊥) → s ≡ true
+is-true true h = refl
+is-true false h = absurd (h refl)
+
 -- "if s then t" as a test
 pub or-implied : (s t : Bool) → (s ≡ true → t ≡ true) → (not s || t) ≡ true
 or-implied true t f = f refl
 or-implied false t f = refl
+
+-- such a test, where s passes
+pub implied : (s t : Bool) → (not s || t) ≡ true → s ≡ true → t ≡ true
+implied true t h k = h
+implied false t h k = absurd (false≢true k)
 
 -- a test of equality reads the same both ways
 pub eqb-comm : (a b : ℕ) → eqb a b ≡ eqb b a

@@ -38,7 +38,7 @@ distinct-apart (y ∷ l) m x h k = go (eqb x y) refl k (distinct-apart l m x (t 
     go false e k later = later k
 
 -- nothing stands before a number that is not in the list
-before-none : (l : List ℕ) (a b : ℕ) → has b l ≡ false → before l a b ≡ false
+pub before-none : (l : List ℕ) (a b : ℕ) → has b l ≡ false → before l a b ≡ false
 before-none [] a b h = refl
 before-none (x ∷ l) a b h =
     let t = or-off (eqb b x) (has b l) h in
@@ -79,7 +79,7 @@ distinct-last (y ∷ p) x =
     regroup false false c d = refl
 
 -- none of the numbers from k on is less than k
-from-none : (j k m : ℕ) → j < k → has j (upFrom k m) ≡ false
+pub from-none : (j k m : ℕ) → j < k → has j (upFrom k m) ≡ false
 unfolding upFrom
 from-none j k zero h = refl
 from-none j k (suc m) h = rw (ne-eqb j k (λ e. omega arith)) (from-none j (suc k) m (omega arith))

@@ -9,10 +9,10 @@ use lib.ListN.{length, getD, take, drop, drop-of-length-le}
 use lib.Seq.{take-suc, drop-cons}
 use Rattle.lists.specs.Lists.{all, lastOr}
 
--- of a list with one entry more that entry is the last, if it passes
-last-append : (p : ℕ → Bool) (d x : ℕ) (l : List ℕ) → lastOr p d (l ++ (x ∷ [])) ≡ cond (p x) x (lastOr p d l)
-last-append p d x [] = refl
-last-append p d x (y ∷ l) = last-append p (cond (p y) y d) x l
+-- of two lists joined it is the last of the second, else of the first
+pub last-append : (p : ℕ → Bool) (d : ℕ) (l m : List ℕ) → lastOr p d (l ++ m) ≡ lastOr p (lastOr p d l) m
+last-append p d [] m = refl
+last-append p d (y ∷ l) m = last-append p (cond (p y) y d) l m
 
 -- a test that every entry and d passes is passed by the last entry of any kind
 pub last-all : (q p : ℕ → Bool) (d : ℕ) (l : List ℕ) → q d ≡ true → all q l ≡ true → q (lastOr p d l) ≡ true
@@ -77,7 +77,7 @@ module _ (p : ℕ → Bool) (d : ℕ) (xs : List ℕ) (n : ℕ) where
   back-one i h k =
       let e : i ≡ suc (i - 1) = omega arith in
       ap (λ (j : ℕ). lastOr p d (take j xs)) e ∙ ap (lastOr p d) (take-suc xs (i - 1) 0 (omega arith))
-      ∙ last-append p d (getD xs (i - 1) 0) (take (i - 1) xs)
+      ∙ last-append p d (take (i - 1) xs) (getD xs (i - 1) 0 ∷ [])
 
   -- nothing is tested yet
   pub behind-start : Behind n

@@ -6,8 +6,10 @@ pub mod MemberLaws
 pub mod KeepLaws
 pub mod BetweenLaws
 pub mod DistinctLaws
+pub mod BeforeLaws
 pub mod TakeLaws
 pub mod FilledLaws
 pub mod PaddedLaws
 pub mod LastLaws
+pub mod LatestLaws
 pub mod AscendingLaws

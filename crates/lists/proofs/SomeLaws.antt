@@ -1,13 +1,14 @@
 -- Laws of the tests below a bound: the lowest number that passes, whether some or every one passes.
 use Prim.Native.Nat.{ℕ, zero, suc, _+_, _≤_, _<_}
 use mathlib.Core.Path.{_≡_, refl, sym, ap, _∙_}
-use mathlib.Core.Bool.{Bool, true, false, cond, not, true≢false}
+use mathlib.Core.Bool.{Bool, true, false, cond, not, _&&_, true≢false}
 use mathlib.Core.Logic.{⊎-elim}
 use native.Mathlib.Nat.{eq-or-lt-of-le}
 use native.Mathlib.Omega.{arith}
 use lib.Dec.{ltb}
 use borrow.Author.Tests.{ltb-true, ltb-false, lt-ltb, le-ltb, not-true, not-false}
 use Rattle.lists.specs.Below.{firstFrom, lowest, some, every, IsLowest}
+use Rattle.lists.proofs.BoolLaws.{and-l, and-r, and-both, bool-ext}
 
 -- the search from k stops by k + m
 first-le : (f : ℕ → Bool) (k m : ℕ) → firstFrom f k m ≤ k + m
@@ -104,6 +105,19 @@ every-at n f k h l = not-false (f k) (none-at n (λ j. not (f j)) k (not-true (s
 -- where each passes, every one does
 pub at-every : (n : ℕ) (f : ℕ → Bool) → ((k : ℕ) → k < n → f k ≡ true) → every n f ≡ true
 at-every n f h = ap not (some-none n (λ j. not (f j)) (λ k l. ap not (h k l)))
+
+-- tests that agree below the bound
+pub every-same : (n : ℕ) (f g : ℕ → Bool) → ((k : ℕ) → k < n → f k ≡ g k) → every n f ≡ every n g
+every-same n f g e = ap not (some-same n (λ k. not (f k)) (λ k. not (g k)) (λ k l. ap not (e k l)))
+
+-- every one passes two tests at once
+pub every-both : (n : ℕ) (f g : ℕ → Bool) → every n (λ k. f k && g k) ≡ (every n f && every n g)
+every-both n f g =
+    bool-ext (every n (λ k. f k && g k)) (every n f && every n g)
+    (λ h. and-both (every n f) _ (at-every n f (λ k l. and-l (f k) (g k) (every-at n (λ k. f k && g k) k h l)))
+    (at-every n g (λ k l. and-r (f k) (g k) (every-at n (λ k. f k && g k) k h l))))
+    (λ h. at-every n (λ k. f k && g k) (λ k l. and-both (f k) (g k) (every-at n f k (and-l (every n f) _ h) l)
+    (every-at n g k (and-r (every n f) _ h) l)))
 
 -- the lowest is below the bound: there is some
 pub some-below : (n k : ℕ) (f : ℕ → Bool) → k ≡ lowest n f → k < n → some n f ≡ true

@@ -12,8 +12,8 @@ use lib.Dec.{eqb}
 use Rattle.lists.specs.Below.{some, every, upFrom, below}
 use Rattle.lists.specs.Lists.{all, kept, keep, count}
 use Rattle.lists.proofs.BoolLaws.{bool-ext}
-use Rattle.lists.proofs.SomeLaws.{some-none, some-same, none-at}
-use Rattle.lists.proofs.ListLaws.{all-has, all-last}
+use Rattle.lists.proofs.SomeLaws.{some-none, some-same, none-at, every-at, at-every}
+use Rattle.lists.proofs.ListLaws.{all-has, all-getD, all-last}
 use Rattle.lists.proofs.MemberLaws.{has-keep, below-has}
 
 -- counting goes on past a list
@@ -35,6 +35,18 @@ all-fails p [] i h e = absurd (omega arith)
 all-fails p (x ∷ l) zero h e = rw e refl
 all-fails p (x ∷ l) (suc i) h e =
     elim (p x) as (λ b. (b && all p l) ≡ false) [ true ↦ all-fails p l i (omega arith) e | false ↦ refl ]
+
+-- each entry passes
+all-at : (p : ℕ → Bool) (l : List ℕ) → ((i : ℕ) → i < length l → p (getD l i 0) ≡ true) → all p l ≡ true
+all-at p [] h = refl
+all-at p (x ∷ l) h = rw (h 0 (omega arith)) (all-at p l (λ i k. h (suc i) (omega arith)))
+
+-- every entry, by its place
+pub all-every : (p : ℕ → Bool) (l : List ℕ) → all p l ≡ every (length l) (λ i. p (getD l i 0))
+all-every p l =
+    bool-ext (all p l) (every (length l) (λ i. p (getD l i 0)))
+    (λ h. at-every (length l) (λ i. p (getD l i 0)) (λ i k. all-getD p l i h k))
+    (λ h. all-at p l (λ i k. every-at (length l) (λ i. p (getD l i 0)) i h k))
 
 -- of the numbers from k on, none that is kept fails
 from-kept : (p f : ℕ → Bool) (k m : ℕ) → ((j : ℕ) → k ≤ j → j < k + m → (f j && not (p j)) ≡ false) → all p (keep f (upFrom k m)) ≡ true

@@ -28,7 +28,7 @@ use Rattle.model.specs.Witness.{isMemoryEvent, isOrder, lawful, witnessF
 use Rattle.model.specs.Prefixes.{isPrefix, predecessorsListed, clean, prefixesBy, cleanPrefixes, orders, witnesses}
 
 -- some test of a list holds, if some test of a sublist does
-any-sublist : {l m : List Bool} → Sublistᴰ l m → any holds l ≡ true → any holds m ≡ true
+pub any-sublist : {l m : List Bool} → Sublistᴰ l m → any holds l ≡ true → any holds m ≡ true
 any-sublist Sublistᴰ·slnil h = h
 any-sublist (Sublistᴰ·cons {a = b} s) h = ap (λ (c : Bool). b || c) (any-sublist s h) ∙ or-true b
 any-sublist (Sublistᴰ·cons-cons {a = a} {b = b} {l₁ = l} {l₂ = m} e s) h = go a e h (any-sublist s)
@@ -38,7 +38,7 @@ any-sublist (Sublistᴰ·cons-cons {a = a} {b = b} {l₁ = l} {l₂ = m} e s) h 
     go false e h later = ap (λ (c : Bool). b || c) (later h) ∙ or-true b
 
 -- an entry of both lists
-both : {b : Bool} {l m : List Bool} → Sublistᴰ l m → Sublistᴰ (b ∷ l) (b ∷ m)
+pub both : {b : Bool} {l m : List Bool} → Sublistᴰ l m → Sublistᴰ (b ∷ l) (b ∷ m)
 both s = Sublistᴰ·cons-cons refl s
 
 module _ (t : Table) where

@@ -36,6 +36,11 @@ unfolding returnEntry
 entry-keeps t rf gmo e true q h = ap not (eq-eqb _ _ (rw q at h))
 entry-keeps t rf gmo e false q h = refl
 
+-- what a reader's entry of the determined list is
+pub returns-at : (t : Table) (gmo : List ℕ) (r : ℕ) → r < t .count → reads t r ≡ true → from (returns t gmo) r ≡ returnOf t gmo r
+unfolding from returns returnEntry
+returns-at t gmo r l h = getD-upTo (t .count) (returnEntry t gmo) r nothing l ∙ rw h
+
 -- The returns that an order determines always meet load value.
 pub returns-load-value : (t : Table) (gmo : List ℕ) → loadValue t (returns t gmo) gmo ≡ true
 unfolding loadValue breaksLoadValue returns from

@@ -1,3 +1,4 @@
 pub mod EventTests
 pub mod SameFields
 pub mod MemoryLaws
+pub mod ProgramOrderLaws

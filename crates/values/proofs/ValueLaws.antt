@@ -1,7 +1,7 @@
 -- The quick test of an order's values is the model's.
 use Prim.Native.Nat.{ℕ, _≤_, _<_}
 use mathlib.Core.Path.{_≡_, refl, sym, ap, ap₂, _∙_}
-use mathlib.Core.Bool.{Bool, true, false, cond, not, _&&_, or-true}
+use mathlib.Core.Bool.{Bool, true, false, not, _&&_, or-true}
 use mathlib.Core.List.{List}
 use native.Mathlib.Omega.{arith}
 use lib.Dec.{eqb, ltb}
@@ -20,10 +20,11 @@ use Rattle.masks.specs.Bit.{bit}
 use Rattle.edition.specs.Limits.{maxLocations}
 use Rattle.table.specs.declared.Table.{Table}
 use Rattle.table.specs.Events.{capacity, event, location, reads, memory}
-use Rattle.model.specs.Rules.{initially, nothing, from}
-use Rattle.model.specs.Returns.{visible, returnOf, returnEntry, returns, writtenValue, finalValue}
+use Rattle.model.specs.Rules.{initially, from}
+use Rattle.model.specs.Returns.{visible, returnOf, returns, writtenValue, finalValue}
 use Rattle.model.specs.Axioms.{breaksValueRead, breaksFinalValue, valuesRead, finalValues}
 use Rattle.model.specs.Witness.{isMemoryEvent, isOrder}
+use Rattle.model.proofs.VerdictLaws.{returns-at}
 use Rattle.prepared.specs.Prepared.{writesTo, rivalsOf, ownOf, writersOf, readersOf, rivalMasks, ownMasks, writerMasks}
 use Rattle.value_masks.specs.ValueMasks.{finalsOf, initialSlot, leavingOf, rightOf, lastingOf, rightMasks, lastingMasks}
 use Rattle.masks.proofs.MaskOfLaws.{mask-below}
@@ -81,18 +82,13 @@ module _ (t : Table) (gmo : List ℕ) (small : t .count ≤ initialSlot) (order 
         ap₂ (λ (a b : ℕ). returnBy a b gmo r) (entry (rivalsOf t)) (entry (ownOf t))
         ∙ return-same t gmo r (order-events t gmo order) h
 
-    -- which the returned list says
-    from-same : from (returns t gmo) r ≡ returnOf t gmo r
-    unfolding from returns returnEntry
-    from-same = getD-upTo (t .count) (returnEntry t gmo) r nothing l ∙ ap (λ (b : Bool). cond b (returnOf t gmo r) nothing) h
-
     -- and so differs from the stated value in the same way
     read-same : breaksReadBy (rivalMasks t) (ownMasks t) (rightMasks t) gmo r ≡ breaksValueRead t (returns t gmo) r
     unfolding breaksReadBy breaksValueRead returnOf
     read-same =
         ap₂ (λ (m w : ℕ). not (bit m w)) (entry (rightOf t) ∙ sym (right-reads t r h)) return-of
         ∙ ap not (last-leaves (visible t gmo r) (location t r) (event t r .read))
-        ∙ ap (λ (w : ℕ). not (eqb (writtenValue t (location t r) w) (event t r .read))) (sym from-same)
+        ∙ ap (λ (w : ℕ). not (eqb (writtenValue t (location t r) w) (event t r .read))) (sym (returns-at t gmo r l h))
         ∙ and-taken (reads t r) (not (eqb (writtenValue t (location t r) (from (returns t gmo) r)) (event t r .read))) h
 
   -- of each event of the test
