@@ -9,7 +9,7 @@ use Rattle.lists.proofs.BoolLaws.{and-left, and-right}
 use Rattle.table.specs.declared.Table.{Table}
 use Rattle.table.specs.Events.{kind, amo, sc, reads}
 use Rattle.model.specs.Rules.{from, mayOrder, rule2, rule3, rule12}
-use Rattle.witness_test.specs.ReturnedRules.{returnedPpo, breaksReturned}
+use Rattle.placing.specs.ReturnedRules.{returnedPpo, breaksReturned}
 
 -- the tests that the code makes, of a pair that rules can order
 pub returned-taken : (t : Table) (rf gmo : List ℕ) (a b : ℕ) (p q r n : Bool) → mayOrder t a b ≡ true

@@ -17,7 +17,7 @@ ghost use Rattle.model.specs.Witness.{isOrder, lawful};
 ghost use Rattle.model.specs.Prefixes.{clean};
 ghost use Rattle.successors.specs.CleanMasks.{slots};
 ghost use Rattle.table.specs.Counts.{Small};
-ghost use Rattle.witness_test.specs.ReturnedRules.{breaksReturned};
+ghost use Rattle.placing.specs.ReturnedRules.{breaksReturned};
 
 // Rule 2, 3 or 12 puts a before b, and the order doesn't.
 fn breaks_returned(t: Table, rf: &[u8], gmo: &[u8], a: EventNo, b: EventNo) -> bool

@@ -3,7 +3,7 @@ use mathlib.Core.Path.{sym}
 use native.Mathlib.Omega.{arith}
 use Rattle.lists.specs.Below.{some}
 use Rattle.lists.proofs.ScanLaws.{Scanned, scan-start, scan-more, some-hit, some-end}
-use Rattle.witness_test.specs.ReturnedRules.{breaksReturned}
+use Rattle.placing.specs.ReturnedRules.{breaksReturned}
 use borrow.Author.Needs.{needs}
 use Rattle.witness_test.proofs.some_broken.Statement.{statement}
 use Rattle.witness_test.proofs.some_broken.Tie as tie

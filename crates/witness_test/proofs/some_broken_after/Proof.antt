@@ -5,7 +5,7 @@ use borrow.Author.Tests.{not-true}
 use Rattle.lists.proofs.ScanLaws.{Scanned, scan-start, scan-more, some-hit, some-end}
 use Rattle.table.proofs.EventTests.{ofEvents}
 use Rattle.model.specs.Rules.{mayOrder}
-use Rattle.witness_test.specs.ReturnedRules.{breaksReturned}
+use Rattle.placing.specs.ReturnedRules.{breaksReturned}
 use Rattle.witness_test.proofs.ReaderLaws.{readers-only}
 use borrow.Author.Needs.{needs}
 use Rattle.witness_test.proofs.some_broken_after.Statement.{statement}
