@@ -1,1 +1,10 @@
+pub mod GuardLaws
 pub mod ReturnedLaws
+pub mod KeptLaws
+pub mod SourceLaws
+pub mod ReadLaws
+pub mod WindowLaws
+pub mod RereadLaws
+pub mod PlacingLaws
+pub mod EntryLaws
+pub mod GoodTableLaws

@@ -1,1 +1,4 @@
+pub mod Guards
+pub mod GoodTable
 pub mod ReturnedRules
+pub mod Entries
