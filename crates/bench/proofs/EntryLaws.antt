@@ -1,14 +1,18 @@
 -- From reading to each entry: what a table that was read has, and what the whole refusal is.
-use Prim.Native.Nat.{ℕ}
+use Prim.Native.Nat.{ℕ, _<_}
 use mathlib.Core.Path.{_≡_, refl, sym, ap, subst, _∙_}
 use mathlib.Core.List.{List, _++_}
 use mathlib.Core.Logic.{_≢_}
 use native.Mathlib.Omega.{arith}
 use Rattle.lists.specs.Reply.{Reply, refused}
+use Rattle.lists.proofs.SomeLaws.{none-at}
 use Rattle.table.specs.declared.Table.{Table}
+use Rattle.table.specs.Events.{hart, location}
 use Rattle.decode.specs.Layout.{editionOf}
 use Rattle.decode.specs.Decoded.{decoded}
 use Rattle.refusals.specs.Lines.{Refused, accepted, firstLine, unless, replyUnless}
+use Rattle.refusals.specs.TableLines.{line7}
+use Rattle.refusals.proofs.InRange.{places-in-range}
 use Rattle.refusals.proofs.PassedLaws.{refused-first, passed-first, entry-declined, entry-own, unless-refused}
 use Rattle.block.specs.Reading.{readingLines, readRefusal, readTable, noTable}
 use Rattle.block.proofs.ReadingLaws.{passed-table, most-fits}
@@ -33,9 +37,19 @@ module _ (s : List ℕ) (ok : readRefusal s ≡ accepted) where
   unfolding readTable
   table-read = ap (λ (r : Refused). unless r (decoded s) noTable) ok
 
-  -- its counts are in range
+  -- its counts are in range, and each event's hart and location
   pub small-read : Small (decoded s)
-  small-read = let r = passed-table s ok .counts in record { events = omega (arith, r .events, most-fits (editionOf s)); locations = r .locations }
+  small-read =
+      let r = passed-table s ok .counts in
+      record {
+        events = omega (arith, r .events, most-fits (editionOf s));
+        locations = r .locations;
+        each-hart = λ k l. omega (arith, place k l .0, r .harts);
+        each-location = λ k l. omega (arith, place k l .1, r .locations);
+      }
+    where
+      place : (k : ℕ) → k < decoded s .count → (hart (decoded s) k < decoded s .harts) × (location (decoded s) k < decoded s .locations)
+      place k l = places-in-range (decoded s) k (none-at (decoded s .count) (line7 (decoded s)) k (passed-table s ok .fields) l)
 
 -- The verdict entry.
 module _ (s rf gmo : List ℕ) where

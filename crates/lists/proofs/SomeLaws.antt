@@ -1,9 +1,9 @@
 -- Laws of the tests below a bound: the lowest number that passes, whether some or every one passes.
 use Prim.Native.Nat.{ℕ, zero, suc, _+_, _≤_, _<_}
 use mathlib.Core.Path.{_≡_, refl, sym, ap, _∙_}
-use mathlib.Core.Bool.{Bool, true, false, cond, not, _&&_, true≢false}
+use mathlib.Core.Bool.{Bool, true, false, cond, not, _&&_, _||_, or-true, true≢false}
 use mathlib.Core.Logic.{⊎-elim}
-use native.Mathlib.Nat.{eq-or-lt-of-le}
+use native.Mathlib.Nat.{eq-or-lt-of-le, le-of-suc-le-suc}
 use native.Mathlib.Omega.{arith}
 use lib.Dec.{ltb}
 use borrow.Author.Tests.{ltb-true, ltb-false, lt-ltb, le-ltb, not-true, not-false}
@@ -126,3 +126,32 @@ some-below n k f e h = ap (λ (j : ℕ). ltb j n) (sym e) ∙ lt-ltb k n h
 -- it isn't: there is none
 pub none-below : (n k : ℕ) (f : ℕ → Bool) → k ≡ lowest n f → n ≤ k → some n f ≡ false
 none-below n k f e h = ap (λ (j : ℕ). ltb j n) (sym e) ∙ le-ltb k n h
+
+-- of one number more: there was some, or it passes
+pub some-more : (n : ℕ) (f : ℕ → Bool) → some (n + 1) f ≡ (some n f || f n)
+some-more n f = go (some n f) refl (f n) refl
+  where
+    go : (b : Bool) → some n f ≡ b → (c : Bool) → f n ≡ c → some (n + 1) f ≡ (b || c)
+    go true e c q = let r = some-found n f e in some-at (n + 1) f (r .0) (omega (arith, r .1)) (r .2)
+    go false e true q = some-at (n + 1) f n (omega arith) q
+    go false e false q =
+        some-none (n + 1) f
+        (λ k l. ⊎-elim (λ (d : k ≡ n). ap f d ∙ q) (λ d. none-at n f k e d) (eq-or-lt-of-le (le-of-suc-le-suc (omega arith))))
+
+-- some that passes one of two tests passes the first or the second
+pub some-or : (n : ℕ) (f g : ℕ → Bool) → some n (λ k. f k || g k) ≡ (some n f || some n g)
+some-or n f g = go (some n f) refl (some n g) refl
+  where
+    go : (b : Bool) → some n f ≡ b → (c : Bool) → some n g ≡ c → some n (λ k. f k || g k) ≡ (b || c)
+    go true e c q =
+        let r = some-found n f e in
+        some-at n (λ k. f k || g k) (r .0) (r .1) (ap (λ (s : Bool). s || g (r .0)) (r .2))
+    go false e true q =
+        let r = some-found n g q in
+        some-at n (λ k. f k || g k) (r .0) (r .1) (ap (λ (s : Bool). f (r .0) || s) (r .2) ∙ or-true (f (r .0)))
+    go false e false q = some-none n (λ k. f k || g k) (λ k l. rw (none-at n f k e l) (none-at n g k q l))
+
+-- what doesn't look at the number can be asked once
+pub some-and : (n : ℕ) (b : Bool) (f : ℕ → Bool) → some n (λ k. b && f k) ≡ (b && some n f)
+some-and n true f = refl
+some-and n false f = some-none n (λ k. false) (λ k l. refl)

@@ -5,4 +5,5 @@ pub mod MaskOfLaws
 pub mod UnionLaws
 pub mod WithinLaws
 pub mod GatherLaws
+pub mod SetLaws
 pub mod SortLaws

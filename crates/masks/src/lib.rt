@@ -23,6 +23,13 @@ pub fn one_if(passes: bool, e: u8) -> u32
     if passes { one(e as u32) } else { 0 }
 }
 
+// The mask if it passes, else the empty mask.
+pub fn mask_if(passes: bool, m: u32) -> u32
+    ensures { λ r. ⌜ r ≡ cond passes m 0 ⌝ }
+{
+    if passes { m } else { 0 }
+}
+
 // Bit `k` of `m` is set.
 pub fn has(m: u32, k: u32) -> bool
     requires { ⌜ k < 32 ⌝ }

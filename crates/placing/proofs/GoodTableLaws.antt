@@ -5,16 +5,17 @@ use mathlib.Core.Path.{_≡_, refl, sym, _∙_}
 use mathlib.Core.Bool.{Bool, true, false, not, _&&_, _||_}
 use mathlib.Core.Logic.{⊎-elim}
 use lib.Dec.{eqb}
-use borrow.Author.Tests.{ltb-false, leb-false, not-true, not-false}
+use borrow.Author.Tests.{ltb-false, not-true, not-false}
 use Rattle.lists.specs.Below.{firstFrom}
 use Rattle.lists.proofs.BoolLaws.{and-l, and-r, or-l, or-r, not-either}
 use Rattle.lists.proofs.SomeLaws.{some-found, none-at, every-at}
 use Rattle.table.specs.declared.Table.{Table}
-use Rattle.table.specs.Events.{capacity, event, kind, location, reads, writes, memory, sameLocation, po, between, reserves, paired}
+use Rattle.table.specs.Events.{capacity, event, kind, hart, location, reads, writes, memory, sameLocation, po, between, reserves, paired}
 use Rattle.table.specs.Events.{memoryKind, fencingKind, lr, sc, store, fencetso}
 use Rattle.table.specs.Annotations.{addressDepends, dataDepends}
 use Rattle.table.proofs.ProgramOrderLaws.{po-hart, po-cases}
 use Rattle.refusals.specs.TableLines.{outside, fieldOutOfRange, fieldsWrong, line7, names, namesWrongly, line9, pairedHere, line10}
+use Rattle.refusals.proofs.InRange.{places-in-range}
 use Rattle.refusals.proofs.TablePassed.{TablePassed}
 use Rattle.placing.specs.Guards.{depends}
 use Rattle.placing.specs.GoodTable.{GoodTable}
@@ -50,9 +51,8 @@ module _ (most : ℕ) (extra : Bool) (t : Table) (room : most < capacity) (passe
   unfolding line7 fieldsWrong
   field-fits e l = let h = none-at (t .count) (line7 t) e (passed .fields) l in search (or-l, or-r) depth 7
 
-  located : (e : ℕ) → e < t .count → location t e < t .locations
-  unfolding fieldOutOfRange location
-  located e l = let h = field-fits e l in leb-false (t .locations) (event t e .location .0) (search (or-l, or-r))
+  places : (e : ℕ) → e < t .count → (hart t e < t .harts) × (location t e < t .locations)
+  places e l = places-in-range t e (none-at (t .count) (line7 t) e (passed .fields) l)
 
   kind-fits : (e : ℕ) → e < t .count → outside (kind t e) fencetso ≡ false
   unfolding fieldOutOfRange kind
@@ -75,8 +75,13 @@ module _ (most : ℕ) (extra : Bool) (t : Table) (room : most < capacity) (passe
 
   pub good-table : GoodTable t
   good-table = record {
-    small = record { events = omega (arith, passed .counts .events); locations = passed .counts .locations };
-    located = located;
+    small = record {
+      events = omega (arith, passed .counts .events);
+      locations = passed .counts .locations;
+      each-hart = λ e l. omega (arith, places e l .0, passed .counts .harts);
+      each-location = λ e l. omega (arith, places e l .1, passed .counts .locations);
+    };
+    located = λ e l. places e l .1;
     named = named;
     pairs = pairs;
   }

@@ -9,11 +9,11 @@ ghost use mathlib.Core.Bool.{_&&_, _||_};
 ghost use lib.Dec.{eqb};
 ghost use Rattle.masks.specs.Bit.{bit};
 ghost use Rattle.table.specs.Events.{capacity, readingKind, writingKind, fence, fencetso};
-ghost use Rattle.table.specs.Annotations.{annotations, acquirePc, acquireSc, releasePc, releaseSc, pr, pw, sr, sw};
+ghost use Rattle.table.specs.Annotations.{annotations, acquireSc, releaseSc, acquiring, releasing, pr, pw, sr, sw};
 ghost use Rattle.model.specs.Rules.{rule4, rule8};
 
 // Bits of `flags`: the annotations of a memory event, the sets of a fence.
-struct Flag;
+pub struct Flag;
 
 impl Flag {
     const ACQUIRE_PC: u32 = 0;
@@ -24,16 +24,16 @@ impl Flag {
 
     const RELEASE_SC: u32 = 3;
 
-    const PR: u32 = 0;
+    pub const PR: u32 = 0;
 
-    const PW: u32 = 1;
+    pub const PW: u32 = 1;
 
-    const SR: u32 = 2;
+    pub const SR: u32 = 2;
 
-    const SW: u32 = 3;
+    pub const SW: u32 = 3;
 }
 
-fn flagged(e: Event, k: u32) -> bool
+pub fn flagged(e: Event, k: u32) -> bool
     requires { ⌜ k < 32 ⌝ }
     ensures { λ r. ⌜ r ≡ bit (e .flags) k ⌝ }
 {
@@ -87,24 +87,39 @@ pub fn rule4(t: Table, a: EventNo, b: EventNo) -> bool
     false
 }
 
+// The event has an acquire annotation, of either kind.
+pub fn acquires(e: Event) -> bool
+    ensures { λ r. ⌜ r ≡ acquiring (annotations e) ⌝ }
+{
+    annotated(e, Flag::ACQUIRE_PC) | annotated(e, Flag::ACQUIRE_SC)
+}
+
+// It has a release annotation.
+pub fn releases(e: Event) -> bool
+    ensures { λ r. ⌜ r ≡ releasing (annotations e) ⌝ }
+{
+    annotated(e, Flag::RELEASE_PC) | annotated(e, Flag::RELEASE_SC)
+}
+
+// It has an RCsc annotation.
+pub fn rcsc(e: Event) -> bool
+    ensures { λ r. ⌜ r ≡ (acquireSc (annotations e) || releaseSc (annotations e)) ⌝ }
+{
+    annotated(e, Flag::ACQUIRE_SC) | annotated(e, Flag::RELEASE_SC)
+}
+
 // "a has an acquire."
 pub fn rule5(x: Event) -> bool
-    ensures { λ r. ⌜ r ≡ (acquirePc (annotations x) || acquireSc (annotations x)) ⌝ }
+    ensures { λ r. ⌜ r ≡ acquiring (annotations x) ⌝ }
 {
-    annotated(x, Flag::ACQUIRE_PC) | annotated(x, Flag::ACQUIRE_SC)
+    acquires(x)
 }
 
 // "b has a release."
 pub fn rule6(y: Event) -> bool
-    ensures { λ r. ⌜ r ≡ (releasePc (annotations y) || releaseSc (annotations y)) ⌝ }
+    ensures { λ r. ⌜ r ≡ releasing (annotations y) ⌝ }
 {
-    annotated(y, Flag::RELEASE_PC) | annotated(y, Flag::RELEASE_SC)
-}
-
-fn rcsc(e: Event) -> bool
-    ensures { λ r. ⌜ r ≡ (acquireSc (annotations e) || releaseSc (annotations e)) ⌝ }
-{
-    annotated(e, Flag::ACQUIRE_SC) | annotated(e, Flag::RELEASE_SC)
+    releases(y)
 }
 
 // "Both have an RCsc annotation."

@@ -1,8 +1,8 @@
 use mathlib.Core.Path.{ap₂}
 use mathlib.Core.Bool.{_||_}
 use borrow.Author.Needs.{needs}
-use Rattle.synchronization.proofs.rule6.Statement.{statement}
-use Rattle.synchronization.proofs.rule6.Tie as tie
+use Rattle.synchronization.proofs.acquires.Statement.{statement}
+use Rattle.synchronization.proofs.acquires.Tie as tie
 
 annotated-requires : tie.Need-annotated-requires
 annotated-requires c κs = search needs
@@ -13,5 +13,5 @@ annotated-requires-2 c κs = search needs
 returns : tie.Need-returns
 returns c = ap₂ _||_ (c .before .annotated .ensures) (c .annotated2 .ensures)
 
-pub rule6-spec : {M : Type 1} → statement M
-rule6-spec = tie.close (tie.spec annotated-requires annotated-requires-2 returns)
+pub acquires-spec : {M : Type 1} → statement M
+acquires-spec = tie.close (tie.spec annotated-requires annotated-requires-2 returns)

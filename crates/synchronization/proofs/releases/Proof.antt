@@ -1,8 +1,8 @@
 use mathlib.Core.Path.{ap₂}
 use mathlib.Core.Bool.{_||_}
 use borrow.Author.Needs.{needs}
-use Rattle.synchronization.proofs.rule5.Statement.{statement}
-use Rattle.synchronization.proofs.rule5.Tie as tie
+use Rattle.synchronization.proofs.releases.Statement.{statement}
+use Rattle.synchronization.proofs.releases.Tie as tie
 
 annotated-requires : tie.Need-annotated-requires
 annotated-requires c κs = search needs
@@ -13,5 +13,5 @@ annotated-requires-2 c κs = search needs
 returns : tie.Need-returns
 returns c = ap₂ _||_ (c .before .annotated .ensures) (c .annotated2 .ensures)
 
-pub rule5-spec : {M : Type 1} → statement M
-rule5-spec = tie.close (tie.spec annotated-requires annotated-requires-2 returns)
+pub releases-spec : {M : Type 1} → statement M
+releases-spec = tie.close (tie.spec annotated-requires annotated-requires-2 returns)
