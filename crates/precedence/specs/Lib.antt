@@ -1,1 +1,2 @@
 pub mod Precedence
+pub mod Passed

@@ -1,47 +1,55 @@
 use Prim.Native.Nat.{_-_}
+use mathlib.Core.Path.{_≡_, refl}
 use native.Mathlib.Omega.{arith}
 use borrow.Author.Needs.{needs}
 use Rattle.lists.proofs.PaddedLaws.{Padded, pad-start, pad-more, pad-end}
+use Rattle.table.specs.Events.{event, hart, location}
 use Rattle.successors.specs.CleanMasks.{slots}
 use Rattle.precedence.specs.Precedence.{predecessorMask, predecessorMasks}
+use Rattle.precedence.specs.Passed.{passedAt}
+use Rattle.precedence.proofs.PassedLaws.{none-passed}
 use Rattle.precedence.proofs.predecessors.Statement.{statement}
 use Rattle.precedence.proofs.predecessors.Tie as tie
 
 abbrev Inv-loop : tie.InvT-loop
-Inv-loop t rows₀ b₀ rows b = Padded (predecessorMask t) slots (t .count) b rows
+Inv-loop t s rows₀ p₀ b₀ rows p b = Padded (predecessorMask t) slots (t .count) b rows × (p ≡ passedAt t b)
 
 abbrev μ-loop : tie.MeasureT-loop
-μ-loop t rows₀ b₀ rows b = t .count - b
+μ-loop t s rows₀ p₀ b₀ rows p b = t .count - b
 
 loop-holds : tie.Need-loop-holds Inv-loop μ-loop
-loop-holds c = pad-start _ _ _
+loop-holds c = (pad-start _ _ _, none-passed _)
 
 row-requires : tie.Need-row-requires Inv-loop μ-loop
-row-requires c κs = search needs
+unfolding hart location event
+row-requires c κs =
+    let d = c .before in
+    let small = d .before .before .before .pre in
+    let b = d .before .loop .b in
+    (omega (arith, small .events), small .each-hart b (d .loop-test .taken), small .each-location b (d .loop-test .taken))
 
-cast-rows : tie.Need-cast-rows Inv-loop μ-loop
-cast-rows c = search needs
-
-mul-rows : tie.Need-mul-rows Inv-loop μ-loop
-mul-rows c = search needs
-
-array-write-rows : tie.Need-array-write-rows Inv-loop μ-loop
-array-write-rows c = search needs
-
-add-b : tie.Need-add-b Inv-loop μ-loop
-add-b c = search needs
-
-loop-less : tie.Need-loop-less Inv-loop μ-loop
-loop-less c = search needs
+pass-requires : tie.Need-pass-requires Inv-loop μ-loop
+unfolding hart event
+pass-requires c κs =
+    let d = c .before .before in
+    let small = d .before .before .before .pre in
+    (omega (arith, small .events), small .each-hart (d .before .loop .b) (d .loop-test .taken))
 
 loop-again : tie.Need-loop-again Inv-loop μ-loop
+unfolding event
 loop-again c =
     let d = c .before .before .before in
-    pad-more _ _ _ _ _ _ (d .before .pre) (d .loop .inv) (omega arith) (c .row .ensures)
+    let v = d .before .loop in
+    let t = d .before .before .before .args .t1 in
+    let sets = d .before .before .of-table .ensures in (
+      pad-more _ _ _ _ _ _ (omega (arith, d .before .before .before .pre .events)) (v .inv .0) (d .loop-test .taken)
+          (c .before .row .ensures t (d .loop-test .taken) sets (v .inv .1) refl),
+      c .pass .ensures t (d .loop-test .taken) sets (v .inv .1) refl,
+    )
 
 returns : tie.Need-returns Inv-loop μ-loop
 unfolding predecessorMasks
-returns c = pad-end _ _ _ _ _ (c .before .before .loop .inv) (omega arith)
+returns c = pad-end _ _ _ _ _ (c .before .loop .inv .0) (omega arith)
 
 pub predecessors-spec : {M : Type 1} → statement M
 predecessors-spec =
@@ -49,12 +57,17 @@ predecessors-spec =
     (tie.spec
     Inv-loop
     μ-loop
+    (λ c κs. search needs)
     loop-holds
+    (λ c. search needs)
+    (λ c. search needs)
+    (λ c. search needs)
     row-requires
-    cast-rows
-    mul-rows
-    array-write-rows
-    add-b
-    loop-less
+    (λ c. search needs)
+    (λ c. search needs)
+    (λ c. search needs)
+    pass-requires
+    (λ c. search needs)
+    (λ c. search needs)
     loop-again
     returns)

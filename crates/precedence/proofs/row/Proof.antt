@@ -1,88 +1,79 @@
-use Prim.Native.Nat.{_-_}
-use mathlib.Core.Logic.{⊎-elim}
-use mathlib.Core.Path.{sym}
-use native.Mathlib.Omega.{arith}
+use mathlib.Core.Path.{refl, sym, ap, _∙_}
+use lib.Dec.{eqb}
+use borrow.Author.Tests.{not-true, not-false}
 use borrow.Author.Needs.{needs}
-use Rattle.masks.proofs.GatherLaws.{Gathered, gather-start, gather-more, gather-skip, gather-end}
-use Rattle.model.specs.Rules.{mayOrder, staticPpo}
-use Rattle.table.proofs.EventTests.{ofEvents}
-use Rattle.static_rules.proofs.StaticLaws.{static-left}
-use Rattle.precedence.specs.Precedence.{predecessorMask}
+use Rattle.table.specs.declared.Event.{Event}
+use Rattle.table.specs.Events.{readingKind, writingKind, memoryKind, kind, location, reads, writes, memory, sc}
+use Rattle.table.specs.Annotations.{release, rcsc}
+use Rattle.event_sets.specs.declared.Sets.{Sets}
+use Rattle.event_sets.specs.Sets.{locationSet, setsOf}
+use Rattle.event_sets.proofs.SetsLaws.{set-has, location-at}
+use Rattle.precedence.specs.declared.Passed.{Passed}
+use Rattle.precedence.proofs.PassedLaws.{taken-as, earlier-is}
+use Rattle.precedence.proofs.RowLaws.{row-none, row-is}
 use Rattle.precedence.proofs.row.Statement.{statement}
 use Rattle.precedence.proofs.row.Tie as tie
 
-abbrev Inv-loop : tie.InvT-loop
-Inv-loop b t y mask₀ a₀ mask a = Gathered (λ x. staticPpo t x (b .0)) (t .count) a mask
+returns : tie.Need-returns
+unfolding memory reads writes kind
+returns c t l s p y =
+    let is-memory = c .before .memory .ensures ∙ ap (λ (e : Event). memoryKind (e .kind)) y in
+    row-none t _ (sym is-memory ∙ not-true _ (c .if1 .taken))
 
-abbrev μ-loop : tie.MeasureT-loop
-μ-loop b t y mask₀ a₀ mask a = t .count - a
-
-cast-y : tie.Need-cast-y Inv-loop μ-loop
-cast-y c = search needs
-
-mul-y : tie.Need-mul-y Inv-loop μ-loop
-mul-y c = search needs
-
-element-copy-out-y : tie.Need-element-copy-out-y Inv-loop μ-loop
-element-copy-out-y c = search needs
-
-loop-holds : tie.Need-loop-holds Inv-loop μ-loop
-loop-holds c = gather-start _ _
-
-cast-x : tie.Need-cast-x Inv-loop μ-loop
-cast-x c = search needs
-
-mul-x : tie.Need-mul-x Inv-loop μ-loop
-mul-x c = search needs
-
-element-copy-out-x : tie.Need-element-copy-out-x Inv-loop μ-loop
-element-copy-out-x c = search needs
-
-may-order-requires : tie.Need-may-order-requires Inv-loop μ-loop
-may-order-requires c κs = search needs
-
-static-ppo-requires : tie.Need-static-ppo-requires Inv-loop μ-loop
-static-ppo-requires c κs = search needs
-
-one-if-requires : tie.Need-one-if-requires Inv-loop μ-loop
-one-if-requires c κs = search needs
-
-add-a : tie.Need-add-a Inv-loop μ-loop
-add-a c = search needs
-
-loop-less : tie.Need-loop-less Inv-loop μ-loop
-loop-less c = search needs
-
-loop-again : tie.Need-loop-again Inv-loop μ-loop
-unfolding mayOrder ofEvents
-loop-again c =
-    let v = c .before .before .before .before .loop in
-    ⊎-elim
-    (λ w. rw (w .3) (gather-more _ _ _ _ _ (v .inv) (omega arith) (rw (w .1 .ensures) at (w .2 .ensures))))
-    (λ w. rw (w .1) (gather-skip _ _ _ _ (v .inv) (omega arith) (sym (static-left _ _ _ (rw (c .before .may-order .ensures) at (w .0 .left))))))
-    (c .if1 .came)
-
-returns : tie.Need-returns Inv-loop μ-loop
-unfolding predecessorMask
-returns c = gather-end _ _ _ _ (c .before .loop .inv) (omega arith)
+returns-2 : tie.Need-returns-2
+unfolding memory reads writes kind location setsOf
+returns-2 c t l s p y =
+    let eleventh = c .before in
+    let eighth = eleventh .before .before .before in
+    let seventh = eighth .before .before in
+    let sixth = seventh .before .before .before in
+    let fourth = sixth .before .before .before in
+    let first = fourth .before .before in
+    let kinds = first .before .before .before in
+    let own = kinds .before .before in
+    let start = own .before .before .before in
+    let b = start .args .b .0 in
+    let is-writer = kinds .writes .ensures ∙ ap (λ (e : Event). writingKind (e .kind)) y in
+    let is-reader = kinds .before .reads .ensures ∙ ap (λ (e : Event). readingKind (e .kind)) y in
+    let is-memory = own .before .before .memory .ensures ∙ ap (λ (e : Event). memoryKind (e .kind)) y in
+    row-is t b l (sym is-memory ∙ not-false _ (own .before .if1 .left))
+    (own .earlier .ensures ∙ earlier-is t (start .args .t1) (start .args .p) (start .args .y) b s p y (start .pre .1))
+    (taken-as (first .mask-if .ensures) is-writer
+    (location-at t (start .args .t1) s (start .args .y .location .0) (start .pre .2) ∙ ap (λ (e : Event). locationSet t (e .location .0)) y))
+    (taken-as (fourth .before .mask-if2 .ensures) is-reader (ap (λ (q : Passed). q .«before_reads») p))
+    (taken-as (fourth .mask-if3 .ensures) is-writer (ap (λ (q : Passed). q .«before_writes») p))
+    (ap (λ (x : Sets). x .acquires) s)
+    (taken-as (sixth .mask-if4 .ensures) (sixth .before .has .ensures ∙ set-has t (release t) _ b (ap (λ (x : Sets). x .releases) s) l) refl)
+    (taken-as (seventh .mask-if5 .ensures) (seventh .before .has2 .ensures ∙ set-has t (rcsc t) _ b (ap (λ (x : Sets). x .rcscs) s) l)
+    (ap (λ (x : Sets). x .rcscs) s))
+    (taken-as (eighth .mask-if6 .ensures) (ap (λ (e : Event). eqb (e .kind) sc) y) (ap (λ (q : Passed). q .reserved) p))
+    (ap (λ (e : Event). e .addr) y)
+    (ap (λ (e : Event). e .«data») y)
+    (taken-as (eleventh .mask-if7 .ensures) is-writer (ap (λ (e : Event). e .ctrl) y))
+    (taken-as (c .mask-if8 .ensures) is-writer (ap (λ (q : Passed). q .addressed) p))
 
 pub row-spec : {M : Type 1} → statement M
 row-spec =
     tie.close
     (tie.spec
-    Inv-loop
-    μ-loop
-    cast-y
-    mul-y
-    element-copy-out-y
-    loop-holds
-    cast-x
-    mul-x
-    element-copy-out-x
-    may-order-requires
-    static-ppo-requires
-    one-if-requires
-    add-a
-    loop-less
-    loop-again
-    returns)
+    (λ c κs. search needs)
+    returns
+    (λ c κs. search needs)
+    (λ c κs. search needs)
+    (λ c κs. search needs)
+    (λ c. search needs)
+    (λ c. search needs)
+    (λ c. search needs)
+    (λ c κs. search needs)
+    (λ c κs. search needs)
+    (λ c κs. search needs)
+    (λ c. search needs)
+    (λ c κs. search needs)
+    (λ c κs. search needs)
+    (λ c. search needs)
+    (λ c κs. search needs)
+    (λ c κs. search needs)
+    (λ c κs. search needs)
+    (λ c κs. search needs)
+    (λ c κs. search needs)
+    returns-2)
