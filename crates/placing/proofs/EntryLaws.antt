@@ -38,7 +38,7 @@ ahead-among : (gmo : List ℕ) (i : ℕ) → distinct gmo ≡ true → i < lengt
 ahead-among gmo i d l = fun-ext (λ a. before-taken gmo i a d l)
 
 -- what is asked of every entry, by those ahead of it, is asked at every place, by those before the place
-by-place : (gmo : List ℕ) (f : (ℕ → Bool) → ℕ → Bool) → distinct gmo ≡ true →
+pub by-place : (gmo : List ℕ) (f : (ℕ → Bool) → ℕ → Bool) → distinct gmo ≡ true →
     all (λ e. f (ahead gmo e) e) gmo ≡ every (length gmo) (λ i. f (among gmo i) (getD gmo i 0))
 by-place gmo f d =
     all-every (λ e. f (ahead gmo e) e) gmo

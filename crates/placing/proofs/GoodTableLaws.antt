@@ -28,7 +28,7 @@ memory-kind k o f =
     (omega (arith, ltb-false fencetso k (or-r (eqb k 0) _ o))))
 
 module _ (t : Table) where
-  paired-parts : (l s : ℕ) → paired t l s ≡ true → (po t l s ≡ true) × (eqb (kind t l) lr ≡ true) × (eqb (kind t s) sc ≡ true)
+  pub paired-parts : (l s : ℕ) → paired t l s ≡ true → (po t l s ≡ true) × (eqb (kind t l) lr ≡ true) × (eqb (kind t s) sc ≡ true)
   unfolding paired
   paired-parts l s p = (search (and-l, and-r), search (and-l, and-r), search (and-l, and-r))
 
@@ -41,7 +41,7 @@ module _ (t : Table) where
       (none-at (t .count) (reserves t l s) m (not-true _ (and-r (po t l s && eqb (kind t l) lr && eqb (kind t s) sc) _ p)) i)
 
   -- so an SC has one LR
-  paired-once : (l m s : ℕ) → l < t .count → m < t .count → paired t l s ≡ true → paired t m s ≡ true → l ≡ m
+  pub paired-once : (l m s : ℕ) → l < t .count → m < t .count → paired t l s ≡ true → paired t m s ≡ true → l ≡ m
   paired-once l m s i j p q =
       ⊎-elim (λ h. absurd (paired-between l m s j p q h)) (⊎-elim (λ (h : l ≡ m). h) (λ h. absurd (paired-between m l s i q p h)))
       (po-cases t l m (po-hart t l s (paired-parts l s p .0) ∙ sym (po-hart t m s (paired-parts m s q .0))))

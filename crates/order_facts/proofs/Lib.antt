@@ -1,0 +1,5 @@
+pub mod MaskLaws
+pub mod ReadLaws
+pub mod WriteLaws
+pub mod GoodLaws
+pub mod FinalLaws
