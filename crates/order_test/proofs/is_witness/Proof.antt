@@ -1,0 +1,136 @@
+use Prim.Native.Nat.{ℕ, _-_, _<_}
+use native.Mathlib.Omega.{arith}
+use mathlib.Core.List.{List}
+use lib.ListN.{getD, length-take}
+use borrow.Author.Tests.{not-true, not-false}
+use Rattle.table.specs.Events.{capacity}
+use Rattle.model.specs.Witness.{witness}
+use Rattle.order_test.proofs.PassLaws.{Placed, Good, Passing, witnessAt, witness-each, witness-unmet, witness-told, entry-room}
+use Rattle.order_test.proofs.PassLaws.{placed-start, placed-more, good-start, good-next, pass-start, pass-more, pass-fails, pass-end}
+use borrow.Author.Needs.{needs}
+use Rattle.order_test.proofs.is_witness.Statement.{statement}
+use Rattle.order_test.proofs.is_witness.Tie as tie
+
+abbrev Inv-loop : tie.InvT-loop
+Inv-loop facts order len placed₀ good₀ i₀ placed good i =
+    Placed facts order len i placed × Good facts order len i good × Passing facts order len witnessAt i
+
+abbrev μ-loop : tie.MeasureT-loop
+μ-loop facts order len placed₀ good₀ i₀ placed good i = len - i
+
+-- the facts, the array and the length
+module _ (s : tie.Start Inv-loop μ-loop) where
+  abbrev F : List (List ℕ)
+  F = s .args .facts .now
+
+  abbrev O : List ℕ
+  O = s .args .order .now
+
+  abbrev N : ℕ
+  N = s .args .len
+
+-- the entry has room in a mask
+room : (c : tie.After-e Inv-loop μ-loop) →
+    getD (O (c .before .before .before .before .before .before)) (c .before .before .loop .i) 0 < capacity
+room c =
+    let start = c .before .before .before .before .before .before in
+    entry-room (F start) (O start) (N start) (start .pre) _ (c .before .loop-test .taken)
+
+index-1-if1 : tie.Need-index-1-if1 Inv-loop μ-loop
+index-1-if1 c = search needs
+
+index-2-if1 : tie.Need-index-2-if1 Inv-loop μ-loop
+index-2-if1 c = search needs
+
+returns : tie.Need-returns Inv-loop μ-loop
+returns c = let start = c .before .before in witness-unmet (F start) (O start) (N start) (c .if1 .taken)
+
+index-1-good : tie.Need-index-1-good Inv-loop μ-loop
+index-1-good c = search needs
+
+index-2-good : tie.Need-index-2-good Inv-loop μ-loop
+index-2-good c = search needs
+
+loop-holds : tie.Need-loop-holds Inv-loop μ-loop
+loop-holds c =
+    let start = c .before .before .before in (
+      placed-start (F start) (O start) (N start),
+      good-start (F start) (O start) (N start),
+      pass-start (F start) (O start) (N start) witnessAt,
+    )
+
+element-copy-out-e : tie.Need-element-copy-out-e Inv-loop μ-loop
+element-copy-out-e c = search needs
+
+may-stand-requires : tie.Need-may-stand-requires Inv-loop μ-loop
+may-stand-requires c κs = room c
+
+returns-2 : tie.Need-returns-2 Inv-loop μ-loop
+returns-2 c =
+    let k = c .before .before in
+    let start = k .before .before .before .before .before .before in
+    let inv = k .before .before .loop .inv in
+    pass-fails (F start) (O start) (N start) witnessAt witness
+    (witness-each (F start) (O start) (N start) (k .before .before .before .before .if1 .left)) (start .pre) _ _ (k .before .loop-test .taken)
+    (witness-told (F start) (O start) (N start) (start .pre) _ (k .before .loop-test .taken) _ _ _ (inv .0) (inv .1)
+    (c .before .may-stand .ensures))
+    (not-true _ (c .if2 .taken))
+
+cast-one : tie.Need-cast-one Inv-loop μ-loop
+cast-one c = omega (arith, room (c .before .before))
+
+one-requires : tie.Need-one-requires Inv-loop μ-loop
+one-requires c κs = room (c .before .before)
+
+good-after-requires : tie.Need-good-after-requires Inv-loop μ-loop
+good-after-requires c κs = room (c .before .before .before)
+
+add-i : tie.Need-add-i Inv-loop μ-loop
+add-i c = search needs
+
+loop-less : tie.Need-loop-less Inv-loop μ-loop
+loop-less c = search needs
+
+loop-again : tie.Need-loop-again Inv-loop μ-loop
+loop-again c =
+    let k = c .before .before .before .before in
+    let start = k .before .before .before .before .before .before in
+    let inv = k .before .before .loop .inv in
+    let l = k .before .loop-test .taken in (
+      placed-more (F start) (O start) (N start) (start .pre) _ l _ _ (inv .0) (c .before .one .ensures),
+      good-next (F start) (O start) (N start) (start .pre) _ l _ _ (inv .1) (c .good-after .ensures),
+      pass-more (F start) (O start) (N start) witnessAt _ _ (inv .2)
+          (witness-told (F start) (O start) (N start) (start .pre) _ l _ _ _ (inv .0) (inv .1)
+          (c .before .before .before .may-stand .ensures))
+          (not-false _ (c .before .before .if2 .left)),
+    )
+
+returns-3 : tie.Need-returns-3 Inv-loop μ-loop
+returns-3 c =
+    let start = c .before .before .before .before .before in
+    pass-end (F start) (O start) (N start) witnessAt witness
+    (witness-each (F start) (O start) (N start) (c .before .before .before .if1 .left)) (c .before .loop .i)
+    (omega (arith, length-take (N start) (O start))) (c .before .loop .inv .2)
+
+pub is-witness-spec : {M : Type 1} → statement M
+is-witness-spec =
+    tie.close
+    (tie.spec
+    Inv-loop
+    μ-loop
+    index-1-if1
+    index-2-if1
+    returns
+    index-1-good
+    index-2-good
+    loop-holds
+    element-copy-out-e
+    may-stand-requires
+    returns-2
+    cast-one
+    one-requires
+    good-after-requires
+    add-i
+    loop-less
+    loop-again
+    returns-3)

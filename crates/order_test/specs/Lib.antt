@@ -1,0 +1,2 @@
+pub mod FactRows
+pub mod Testing

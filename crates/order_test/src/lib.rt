@@ -1,0 +1,199 @@
+// The test of a whole order in one pass: each entry is asked, by those placed before it, whether it may stand there. The facts
+// of the table are lent as one array of masks: a table by value would be copied at each call.
+use masks::has;
+use masks::lowest_set;
+use masks::one;
+use masks::within;
+use table::CAPACITY;
+ghost use Prim.Native.Nat.{_<_};
+ghost use mathlib.Core.Path.{_≡_};
+ghost use mathlib.Core.Bool.{not, _&&_, _||_};
+ghost use lib.ListN.{take};
+ghost use lib.Bits.{bitAnd, bitOr, bitXor};
+ghost use Rattle.masks.specs.Bit.{bit};
+ghost use Rattle.table.specs.Events.{capacity, reads, writes};
+ghost use Rattle.model.specs.Witness.{lawful, witness};
+ghost use Rattle.placing.specs.Guards.{mayRead, mayWrite, mayPlace, readsStated};
+ghost use Rattle.order_facts.specs.Facts.{mayEnd};
+ghost use Rattle.order_facts.specs.Highest.{highest};
+ghost use Rattle.order_test.specs.FactRows.{mask, hereRow, rightRow};
+ghost use Rattle.order_test.specs.Testing.{Tells, TellsGood, Judges, Fitting, openBy};
+
+// The rows of the facts: for each event the mask of those that its word says (crate `order_facts`).
+pub const OWN: usize = 0;
+
+pub const NEEDS: usize = 1;
+
+pub const WINDOW: usize = 2;
+
+pub const GROUND: usize = 3;
+
+pub const GUARDS: usize = 4;
+
+pub const HERE: usize = 5;
+
+pub const RIGHT: usize = 6;
+
+pub const PEERS: usize = 7;
+
+pub const SETS: usize = 8;
+
+pub const ROWS: usize = 9;
+
+// The words of the last row.
+pub const GOOD: usize = 0;
+
+pub const ENDS: usize = 1;
+
+pub const UNMET: usize = 2;
+
+// The highest bit of a mask.
+const TOP_BIT: u32 = 31;
+
+// What is in `a` and not in `b`.
+fn less(a: u32, b: u32) -> u32
+    ensures { λ r. ⌜ r ≡ bitXor a (bitAnd a b) ⌝ }
+{
+    a ^ (a & b)
+}
+
+// The highest bit that is set in `m`.
+fn highest_set(m: u32) -> u32
+    requires { ⌜ 0 < m ⌝ }
+    ensures { λ r. ⌜ r ≡ highest m ⌝ }
+{
+    TOP_BIT - u32::leading_zeros(m)
+}
+
+// `e` may be placed as a reader: all its own writers are, or what their latest needs before it is returned from.
+fn may_read(facts: &[[u32; CAPACITY]; ROWS], placed: u32, e: u8) -> bool
+    requires { ⌜ e < capacity ⌝ }
+    ensures { λ r. ⌜ Tells (now (facts .entry)) e (λ t. not (reads t e) || mayRead t (bit placed) e) r ⌝ }
+{
+    let missing = less(facts[OWN][e as usize], placed);
+    if missing == 0 {
+        return true;
+    }
+    within(facts[NEEDS][highest_set(missing) as usize], placed)
+}
+
+// If `e` reads, it returns its stated value: what its latest own writer wrote, or what is at its location, by the mask `good`.
+fn reads_stated(facts: &[[u32; CAPACITY]; ROWS], placed: u32, good: u32, e: u8) -> bool
+    requires { ⌜ e < capacity ⌝ }
+    ensures { λ r. ⌜ TellsGood (now (facts .entry)) good e (λ t value. readsStated t (bit placed) value e) r ⌝ }
+{
+    let missing = less(facts[OWN][e as usize], placed);
+    if missing == 0 {
+        return has(good, e as u32);
+    }
+    has(facts[RIGHT][highest_set(missing) as usize], e as u32)
+}
+
+// The window of `v`, which isn't placed, is open.
+fn is_open(facts: &[[u32; CAPACITY]; ROWS], placed: u32, v: u32) -> bool
+    requires { ⌜ v < capacity ⌝ }
+    ensures { λ r. ⌜ r ≡ openBy (now (facts .entry)) placed v ⌝ }
+{
+    let window = facts[WINDOW][v as usize];
+    let ground = facts[GROUND][v as usize];
+    (window & placed != 0) & within(ground, placed)
+}
+
+// `e` may be placed as a writer: no guard of its location has an open window.
+fn may_write(facts: &[[u32; CAPACITY]; ROWS], placed: u32, e: u8) -> bool
+    requires { ⌜ e < capacity ⌝ }
+    ensures { λ r. ⌜ Tells (now (facts .entry)) e (λ t. not (writes t e) || mayWrite t (bit placed) e) r ⌝ }
+{
+    let mut left = less(facts[GUARDS][e as usize], placed);
+    while left != 0 {
+        let v = lowest_set(left);
+        if is_open(facts, placed, v) {
+            return false;
+        }
+        left = left ^ one(v);
+    }
+    true
+}
+
+// `e` may be placed.
+fn may_place(facts: &[[u32; CAPACITY]; ROWS], placed: u32, e: u8) -> bool
+    requires { ⌜ e < capacity ⌝ }
+    ensures { λ r. ⌜ Tells (now (facts .entry)) e (λ t. mayPlace t (bit placed) e) r ⌝ }
+{
+    if may_read(facts, placed, e) {
+        may_write(facts, placed, e)
+    } else {
+        false
+    }
+}
+
+// `e` isn't the last writer of its location, or leaves the stated final value.
+fn may_end(facts: &[[u32; CAPACITY]; ROWS], placed: u32, e: u8) -> bool
+    requires { ⌜ e < capacity ⌝ }
+    ensures { λ r. ⌜ Tells (now (facts .entry)) e (λ t. mayEnd t (bit placed) e) r ⌝ }
+{
+    !within(facts[PEERS][e as usize], placed) | has(facts[SETS][ENDS], e as u32)
+}
+
+// The clean order at the front of the array is lawful.
+pub fn is_lawful(facts: &[[u32; CAPACITY]; ROWS], order: &[u8; CAPACITY], len: usize) -> bool
+    requires { ⌜ Fitting (now order) len ⌝ }
+    ensures { λ r. ⌜ Judges (now (facts .entry)) (take len (now (order .entry))) lawful r ⌝ }
+{
+    let mut placed: u32 = 0;
+    let mut i: usize = 0;
+    while i < len {
+        let e = order[i];
+        if !may_place(facts, placed, e) {
+            return false;
+        }
+        placed = placed | one(e as u32);
+        i += 1;
+    }
+    true
+}
+
+// `e` may be placed, and the stated values are kept. These are tested first: they are cheap and usually fail.
+fn may_stand(facts: &[[u32; CAPACITY]; ROWS], placed: u32, good: u32, e: u8) -> bool
+    requires { ⌜ e < capacity ⌝ }
+    ensures { λ r. ⌜ TellsGood (now (facts .entry)) good e
+        (λ t value. mayPlace t (bit placed) e && readsStated t (bit placed) value e && mayEnd t (bit placed) e) r ⌝ }
+{
+    if reads_stated(facts, placed, good, e) & may_end(facts, placed, e) {
+        may_place(facts, placed, e)
+    } else {
+        false
+    }
+}
+
+// The mask of the good once `e` is placed.
+fn good_after(facts: &[[u32; CAPACITY]; ROWS], good: u32, e: u8) -> u32
+    requires { ⌜ e < capacity ⌝ }
+    ensures { λ r. ⌜ r ≡
+        bitOr (bitXor good (bitAnd good (mask (now (facts .entry)) hereRow e))) (mask (now (facts .entry)) rightRow e) ⌝ }
+{
+    less(good, facts[HERE][e as usize]) | facts[RIGHT][e as usize]
+}
+
+// The clean order at the front of the array is a witness.
+pub fn is_witness(facts: &[[u32; CAPACITY]; ROWS], order: &[u8; CAPACITY], len: usize) -> bool
+    requires { ⌜ Fitting (now order) len ⌝ }
+    ensures { λ r. ⌜ Judges (now (facts .entry)) (take len (now (order .entry))) witness r ⌝ }
+{
+    if facts[SETS][UNMET] != 0 {
+        return false;
+    }
+    let mut placed: u32 = 0;
+    let mut good = facts[SETS][GOOD];
+    let mut i: usize = 0;
+    while i < len {
+        let e = order[i];
+        if !may_stand(facts, placed, good, e) {
+            return false;
+        }
+        placed = placed | one(e as u32);
+        good = good_after(facts, good, e);
+        i += 1;
+    }
+    true
+}
