@@ -100,8 +100,8 @@ module _ (facts : List (List ℕ)) (order : List ℕ) (len : ℕ) where
         ∙ ap (λ (m : ℕ). bit m a) (sym (s .1)))
 
     -- what is told of the entry by the mask is the test at its place
-    pub lawful-told : (placed : ℕ) (r : Bool) → Placed i placed → Tells facts (getD order i 0) (λ t. mayPlace t (bit placed) (getD order i 0)) r →
-        Always (λ t. r ≡ lawfulAt t gmo i)
+    pub lawful-told : (placed : ℕ) (r : Bool) → Placed i placed →
+        Tells facts (getD order i 0) (λ t. mayPlace t (bit placed) (getD order i 0)) r → Always (λ t. r ≡ lawfulAt t gmo i)
     unfolding lawfulAt
     lawful-told placed r s h t f o c =
         h t f (entry-event t o) ∙ ap₂ (mayPlace t) (sym (among-mask placed s)) (sym entry-is)
@@ -116,11 +116,14 @@ module _ (facts : List (List ℕ)) (order : List ℕ) (len : ℕ) where
         (sym (among-mask placed s)) (sym entry-is)
 
     pub good-next : (now next : ℕ) → Good i now →
-        next ≡ bitOr (bitXor now (bitAnd now (mask facts hereRow (getD order i 0)))) (mask facts rightRow (getD order i 0)) → Good (i + 1) next
+        next ≡ bitOr (bitXor now (bitAnd now (mask facts hereRow (getD order i 0)))) (mask facts rightRow (getD order i 0)) →
+        Good (i + 1) next
     good-next now next g q t f o c =
         let n = entry-event t o in
-        q ∙ ap₂ (λ (x y : ℕ). bitOr (bitXor now (bitAnd now x)) y) (mask-is f hereRow (here t) (f .here) _ n) (mask-is f rightRow (right t) (f .right) _ n)
-        ∙ ap (λ (x : ℕ). bitOr (bitXor x (bitAnd x (maskBy t (here t (getD order i 0))))) (maskBy t (right t (getD order i 0)))) (g t f o c)
+        q ∙ ap₂ (λ (x y : ℕ). bitOr (bitXor now (bitAnd now x)) y) (mask-is f hereRow (here t) (f .here) _ n)
+        (mask-is f rightRow (right t) (f .right) _ n)
+        ∙ ap (λ (x : ℕ). bitOr (bitXor x (bitAnd x (maskBy t (here t (getD order i 0))))) (maskBy t (right t (getD order i 0))))
+        (g t f o c)
         ∙ sym (good-more t (f .table .small) (take i gmo) (getD order i 0) n)
         ∙ ap (λ (p : List ℕ). maskBy t (good t (finalValue t p)))
         (ap (λ (e : ℕ). take i gmo ++ (e ∷ [])) (sym entry-is) ∙ sym (take-suc gmo i 0 (omega (arith, long)))
@@ -170,7 +173,8 @@ module _ (facts : List (List ℕ)) (order : List ℕ) (len : ℕ) where
   witness-each z t f o c =
       witness-entries t gmo (f .table) o c
       ∙ ap (λ (b : Bool). every (length gmo) (λ i. lawfulAt t gmo i && statedAt t gmo i) && b)
-      (final-entries (clean-kept (f .table) o c) ∙ ap (λ (b : Bool). not b && every (length gmo) ending) (unmet-mask t f ∙ ap (λ (m : ℕ). not (eqb m 0)) z))
+      (final-entries (clean-kept (f .table) o c)
+      ∙ ap (λ (b : Bool). not b && every (length gmo) ending) (unmet-mask t f ∙ ap (λ (m : ℕ). not (eqb m 0)) z))
       ∙ sym (every-both (length gmo) (λ i. lawfulAt t gmo i && statedAt t gmo i) ending)
     where
       ending : ℕ → Bool
@@ -181,4 +185,5 @@ module _ (facts : List (List ℕ)) (order : List ℕ) (len : ℕ) where
       sym (witness-entries t gmo (f .table) o c
       ∙ and-right (every (length gmo) (λ i. lawfulAt t gmo i && statedAt t gmo i)) _
       (final-entries (clean-kept (f .table) o c)
-      ∙ ap (λ (b : Bool). not b && every (length gmo) (λ i. mayEnd t (among gmo i) (getD gmo i 0))) (unmet-mask t f ∙ ap not (ne-eqb _ 0 n))))
+      ∙ ap (λ (b : Bool). not b && every (length gmo) (λ i. mayEnd t (among gmo i) (getD gmo i 0)))
+      (unmet-mask t f ∙ ap not (ne-eqb _ 0 n))))

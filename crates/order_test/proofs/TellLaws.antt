@@ -22,7 +22,8 @@ use Rattle.order_facts.specs.Facts.{maskBy, ownWriter, needed, opens, grounds, 
 use Rattle.order_facts.proofs.MaskLaws.{bit-less, mask-at}
 use Rattle.order_facts.proofs.ReadLaws.{within-mask, read-none, stated-none, w-counted, read-some, stated-some}
 use Rattle.order_facts.proofs.WriteLaws.{bars, write-bars, open-mask}
-use Rattle.order_test.specs.FactRows.{row, mask, masksBy, Facts, endsWord, groundRow, guardRow, needsRow, ownRow, peerRow, rightRow, setRow, windowRow}
+use Rattle.order_test.specs.FactRows.{row, mask, masksBy, Facts, ownRow, needsRow, windowRow, groundRow, guardRow, rightRow}
+use Rattle.order_test.specs.FactRows.{peerRow, setRow, endsWord}
 use Rattle.order_test.specs.Testing.{Tells, TellsGood, openBy}
 
 module _ {t : Table} {facts : List (List ℕ)} (f : Facts t facts) where
@@ -50,7 +51,8 @@ module _ (facts : List (List ℕ)) (placed e : ℕ) where
   pub tell-read-none : (m : ℕ) → m ≡ missing → m ≡ 0 → Tells facts e (λ t. not (reads t e) || mayRead t (bit placed) e) true
   tell-read-none m q z t f l = sym (read-none t (room f) placed e (sym (missing-is t f l) ∙ sym q ∙ z))
 
-  pub tell-stated-none : (m now : ℕ) → m ≡ missing → m ≡ 0 → TellsGood facts now e (λ t value. readsStated t (bit placed) value e) (bit now e)
+  pub tell-stated-none : (m now : ℕ) → m ≡ missing → m ≡ 0 →
+      TellsGood facts now e (λ t value. readsStated t (bit placed) value e) (bit now e)
   tell-stated-none m now q z t f l value g =
       sym (stated-none t (room f) placed e value (sym (missing-is t f l) ∙ sym q ∙ z)
       ∙ sym (ap (λ (x : ℕ). bit x e) g ∙ mask-bit t (good t value) e l))
@@ -65,7 +67,8 @@ module _ (facts : List (List ℕ)) (placed e : ℕ) where
 
   -- Some are: the highest of them is w.
   pub tell-read-some : (m w : ℕ) → m ≡ missing → (m ≡ 0 → ⊥) → w ≡ highest m →
-      Tells facts e (λ t. not (reads t e) || mayRead t (bit placed) e) (eqb (bitAnd (mask facts needsRow w) placed) (mask facts needsRow w))
+      Tells facts e (λ t. not (reads t e) || mayRead t (bit placed) e)
+      (eqb (bitAnd (mask facts needsRow w) placed) (mask facts needsRow w))
   tell-read-some m w q n h t f l =
       let s = some-missing t f l m q n in
       let i = highest-is t f l m w q h in
@@ -93,7 +96,8 @@ module _ (facts : List (List ℕ)) (placed e : ℕ) where
       ∙ sym (open-mask t placed v)
 
   tell-write : Tells facts e (λ t. not (writes t e) || mayWrite t (bit placed) e)
-      (not (some capacity (λ v. bit (bitXor (mask facts guardRow e) (bitAnd (mask facts guardRow e) placed)) v && openBy facts placed v)))
+      (not (some capacity
+      (λ v. bit (bitXor (mask facts guardRow e) (bitAnd (mask facts guardRow e) placed)) v && openBy facts placed v)))
   unfolding maskBy
   tell-write t f l =
       ap not (bool-ext (some capacity barring) (some (t .count) (bars (f .table) (bit placed) e)) there back)
@@ -144,7 +148,8 @@ module _ (facts : List (List ℕ)) (placed e : ℕ) where
 
   -- Both as a reader and as a writer.
   pub tell-place : (a b : Bool) → Tells facts e (λ t. not (reads t e) || mayRead t (bit placed) e) a →
-      Tells facts e (λ t. not (writes t e) || mayWrite t (bit placed) e) b → a ≡ true → Tells facts e (λ t. mayPlace t (bit placed) e) b
+      Tells facts e (λ t. not (writes t e) || mayWrite t (bit placed) e) b → a ≡ true →
+      Tells facts e (λ t. mayPlace t (bit placed) e) b
   unfolding mayPlace
   tell-place a b h k q t f l = and-taken _ b q ∙ ap₂ (λ (x y : Bool). x && y) (h t f l) (k t f l)
 
@@ -159,7 +164,8 @@ module _ (facts : List (List ℕ)) (placed e : ℕ) where
 
   module _ {now : ℕ} {a b : Bool} (h : TellsGood facts now e (λ t value. readsStated t (bit placed) value e) a)
       (k : Tells facts e (λ t. mayEnd t (bit placed) e) b) where
-    pub tell-stands : (r : Bool) → Tells facts e (λ t. mayPlace t (bit placed) e) r → (a && b) ≡ true → TellsGood facts now e standing r
+    pub tell-stands : (r : Bool) → Tells facts e (λ t. mayPlace t (bit placed) e) r → (a && b) ≡ true →
+        TellsGood facts now e standing r
     tell-stands r m q t f l value g =
         m t f l
         ∙ sym (rw (sym (h t f l value g) ∙ and-l a b q, sym (k t f l) ∙ and-r a b q)

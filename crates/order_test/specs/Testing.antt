@@ -35,4 +35,6 @@ pub record Fitting (order : List ℕ) (len : ℕ) : Type 0 where
 
 -- v's window is open, by the facts
 unfoldable pub openBy : List (List ℕ) → ℕ → ℕ → Bool
-openBy facts placed v = not (eqb (bitAnd (mask facts windowRow v) placed) 0) && eqb (bitAnd (mask facts groundRow v) placed) (mask facts groundRow v)
+openBy facts placed v =
+    not (eqb (bitAnd (mask facts windowRow v) placed) 0)
+    && eqb (bitAnd (mask facts groundRow v) placed) (mask facts groundRow v)

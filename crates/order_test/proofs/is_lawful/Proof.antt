@@ -31,8 +31,10 @@ module _ (s : tie.Start Inv-loop μ-loop) where
   N = s .args .len
 
 -- the entry has room in a mask
-room : (c : tie.After-e Inv-loop μ-loop) → getD (c .before .before .before .args .order .now) (c .before .before .loop .i) 0 < capacity
-room c = entry-room (c .before .before .before .args .facts .now) _ _ (c .before .before .before .pre) _ (c .before .loop-test .taken)
+room : (c : tie.After-e Inv-loop μ-loop) → getD (O (c .before .before .before)) (c .before .before .loop .i) 0 < capacity
+room c =
+    let start = c .before .before .before in
+    entry-room (F start) (O start) (N start) (start .pre) _ (c .before .loop-test .taken)
 
 loop-holds : tie.Need-loop-holds Inv-loop μ-loop
 loop-holds c = (placed-start (F c) (O c) (N c), pass-start (F c) (O c) (N c) lawfulAt)
@@ -47,8 +49,9 @@ returns : tie.Need-returns Inv-loop μ-loop
 returns c =
     let k = c .before .before in
     let start = k .before .before .before in
-    pass-fails (F start) (O start) (N start) lawfulAt lawful (lawful-each (F start) (O start) (N start)) (start .pre) _ _ (k .before .loop-test .taken)
-    (lawful-told (F start) (O start) (N start) (start .pre) _ (k .before .loop-test .taken) _ _ (k .before .before .loop .inv .0) (c .before .may-place .ensures))
+    let l = k .before .loop-test .taken in
+    pass-fails (F start) (O start) (N start) lawfulAt lawful (lawful-each (F start) (O start) (N start)) (start .pre) _ _ l
+    (lawful-told (F start) (O start) (N start) (start .pre) _ l _ _ (k .before .before .loop .inv .0) (c .before .may-place .ensures))
     (not-true _ (c .if1 .taken))
 
 cast-one : tie.Need-cast-one Inv-loop μ-loop
@@ -66,10 +69,11 @@ loop-less c = search needs
 loop-again : tie.Need-loop-again Inv-loop μ-loop
 loop-again c =
     let k = c .before .before .before in
-    let start = k .before .before .before in (
-      placed-more (F start) (O start) (N start) (start .pre) _ (k .before .loop-test .taken) _ _ (k .before .before .loop .inv .0) (c .one .ensures),
+    let start = k .before .before .before in
+    let l = k .before .loop-test .taken in (
+      placed-more (F start) (O start) (N start) (start .pre) _ l _ _ (k .before .before .loop .inv .0) (c .one .ensures),
       pass-more (F start) (O start) (N start) lawfulAt _ _ (k .before .before .loop .inv .1)
-          (lawful-told (F start) (O start) (N start) (start .pre) _ (k .before .loop-test .taken) _ _ (k .before .before .loop .inv .0)
+          (lawful-told (F start) (O start) (N start) (start .pre) _ l _ _ (k .before .before .loop .inv .0)
           (c .before .before .may-place .ensures))
           (not-false _ (c .before .if1 .left)),
     )

@@ -5,8 +5,9 @@ use lib.ListN.{getD, length-take}
 use borrow.Author.Tests.{not-true, not-false}
 use Rattle.table.specs.Events.{capacity}
 use Rattle.model.specs.Witness.{witness}
-use Rattle.order_test.proofs.PassLaws.{Placed, Good, Passing, witnessAt, witness-each, witness-unmet, witness-told, entry-room}
-use Rattle.order_test.proofs.PassLaws.{placed-start, placed-more, good-start, good-next, pass-start, pass-more, pass-fails, pass-end}
+use Rattle.order_test.proofs.PassLaws.{Placed, Good, Passing, witnessAt, witness-each, witness-unmet, witness-told}
+use Rattle.order_test.proofs.PassLaws.{entry-room, placed-start, placed-more, good-start, good-next}
+use Rattle.order_test.proofs.PassLaws.{pass-start, pass-more, pass-fails, pass-end}
 use borrow.Author.Needs.{needs}
 use Rattle.order_test.proofs.is_witness.Statement.{statement}
 use Rattle.order_test.proofs.is_witness.Tie as tie
@@ -71,7 +72,8 @@ returns-2 c =
     let start = k .before .before .before .before .before .before in
     let inv = k .before .before .loop .inv in
     pass-fails (F start) (O start) (N start) witnessAt witness
-    (witness-each (F start) (O start) (N start) (k .before .before .before .before .if1 .left)) (start .pre) _ _ (k .before .loop-test .taken)
+    (witness-each (F start) (O start) (N start) (k .before .before .before .before .if1 .left)) (start .pre) _ _
+    (k .before .loop-test .taken)
     (witness-told (F start) (O start) (N start) (start .pre) _ (k .before .loop-test .taken) _ _ _ (inv .0) (inv .1)
     (c .before .may-stand .ensures))
     (not-true _ (c .if2 .taken))

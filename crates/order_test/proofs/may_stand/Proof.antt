@@ -13,7 +13,9 @@ may-place-requires : tie.Need-may-place-requires
 may-place-requires c κs = search needs
 
 returns : tie.Need-returns
-returns c = tell-stands _ _ _ (c .before .before .before .reads-stated .ensures) (c .before .before .may-end .ensures) _ (c .may-place .ensures) (c .before .if1 .taken)
+returns c =
+    tell-stands _ _ _ (c .before .before .before .reads-stated .ensures) (c .before .before .may-end .ensures) _
+    (c .may-place .ensures) (c .before .if1 .taken)
 
 returns-2 : tie.Need-returns-2
 returns-2 c = tell-falls _ _ _ (c .before .before .reads-stated .ensures) (c .before .may-end .ensures) (c .if1 .left)

@@ -45,7 +45,8 @@ returns : tie.Need-returns Inv-loop μ-loop
 returns c =
     let k = c .before .before in
     tell-barring _ _ _ _ _ (k .before .before .before .less .ensures)
-    (left-hit _ _ _ _ _ (k .before .before .loop .inv) (omega arith) (k .lowest-set .ensures) (sym (c .before .is-open .ensures) ∙ c .if1 .taken))
+    (left-hit _ _ _ _ _ (k .before .before .loop .inv) (omega arith) (k .lowest-set .ensures)
+    (sym (c .before .is-open .ensures) ∙ c .if1 .taken))
 
 one-requires : tie.Need-one-requires Inv-loop μ-loop
 one-requires c κs = lowest (c .before .before)

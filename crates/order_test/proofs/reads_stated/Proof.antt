@@ -20,7 +20,9 @@ has-requires : tie.Need-has-requires
 has-requires c κs = search needs
 
 returns : tie.Need-returns
-returns c t f l value g = c .has .ensures ∙ tell-stated-none _ _ _ _ _ (c .before .before .less .ensures) (c .before .if1 .taken) t f l value g
+returns c t f l value g =
+    c .has .ensures
+    ∙ tell-stated-none _ _ _ _ _ (c .before .before .less .ensures) (c .before .if1 .taken) t f l value g
 
 highest-set-requires : tie.Need-highest-set-requires
 highest-set-requires c κs = search needs
