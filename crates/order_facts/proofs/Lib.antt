@@ -3,3 +3,6 @@ pub mod ReadLaws
 pub mod WriteLaws
 pub mod GoodLaws
 pub mod FinalLaws
+pub mod RowLaws
+pub mod WindowRowLaws
+pub mod PairRowLaws

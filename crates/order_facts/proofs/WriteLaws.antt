@@ -11,20 +11,25 @@ use Rattle.lists.proofs.BoolLaws.{and-l, and-r, bool-ext, or-cases, not-either}
 use Rattle.lists.proofs.SomeLaws.{some-at, some-found, some-none}
 use Rattle.masks.specs.Bit.{bit}
 use Rattle.table.specs.declared.Table.{Table}
-use Rattle.table.specs.Events.{kind, hart, writes, sameLocation, paired, sc}
+use Rattle.table.specs.Events.{kind, hart, reads, writes, sameLocation, paired, lr, sc}
 use Rattle.table.proofs.ProgramOrderLaws.{po-hart, same-trans, same-sym}
 use Rattle.placing.specs.Guards.{own, rereads, within, openRead, openPair, intruding, mayWrite}
 use Rattle.placing.specs.GoodTable.{GoodTable}
 use Rattle.placing.proofs.GuardLaws.{within-at, at-within, open-read, is-open-read, open-pair, is-open-pair}
 use Rattle.placing.proofs.GoodTableLaws.{paired-parts, paired-once}
-use Rattle.order_facts.specs.Facts.{maskBy, opens, grounds, isOpen, guards}
+use Rattle.order_facts.specs.Facts.{maskBy, ownWriter, opens, grounds, isOpen, guards}
 use Rattle.order_facts.proofs.MaskLaws.{mask-meets}
 use Rattle.order_facts.proofs.ReadLaws.{within-mask}
 
 -- an SC writes
-pair-writes : (t : Table) (l s : ℕ) → paired t l s ≡ true → writes t s ≡ true
+pub pair-writes : (t : Table) (l s : ℕ) → paired t l s ≡ true → writes t s ≡ true
 unfolding writes
 pair-writes t l s p = rw (eqb-true (kind t s) sc (paired-parts t l s p .2)) refl
+
+-- an LR reads
+pair-reads : (t : Table) (l s : ℕ) → paired t l s ≡ true → reads t l ≡ true
+unfolding reads
+pair-reads t l s p = rw (eqb-true (kind t l) lr (paired-parts t l s p .1)) refl
 
 module _ (t : Table) (placed : ℕ → Bool) where
   -- v isn't placed, and its window is open
@@ -57,24 +62,25 @@ module _ {t : Table} (good : GoodTable t) (placed : ℕ → Bool) (w : ℕ) wher
 
     -- the ground of a reader that doesn't write, and of an SC
     reader-ground : (v : ℕ) → writes t v ≡ false → within t placed (own t v) ≡ true → within t placed (grounds t v) ≡ true
-    unfolding grounds
+    unfolding grounds ownWriter
     reader-ground v n h =
         at-within t placed (grounds t v) (λ a i q.
-        ⊎-elim (λ o. within-at t placed (own t v) h a i (and-r (not (writes t v)) _ o))
-        (λ o. let f = some-found (t .count) (λ l. paired t l v && own t l a) o in
+        ⊎-elim (λ o. within-at t placed (own t v) h a i (and-r (reads t v) _ (and-r (not (writes t v)) _ o)))
+        (λ o. let f = some-found (t .count) (λ l. paired t l v && ownWriter t l a) o in
         absurd (not-either _ (pair-writes t (f .0) v (and-l (paired t (f .0) v) _ (f .2))) n))
-        (or-cases (not (writes t v) && own t v a) _ q))
+        (or-cases (not (writes t v) && ownWriter t v a) _ q))
 
     pair-ground : (l s : ℕ) → l < t .count → paired t l s ≡ true → within t placed (own t l) ≡ true →
         within t placed (grounds t s) ≡ true
-    unfolding grounds
+    unfolding grounds ownWriter
     pair-ground l s j p h =
         at-within t placed (grounds t s) (λ a i q.
         ⊎-elim (λ o. absurd (not-either _ (pair-writes t l s p) (not-true _ (and-l (not (writes t s)) _ o))))
-        (λ o. let f = some-found (t .count) (λ l. paired t l s && own t l a) o in
+        (λ o. let f = some-found (t .count) (λ l. paired t l s && ownWriter t l a) o in
         let e = paired-once t (f .0) l s (f .1) j (and-l (paired t (f .0) s) _ (f .2)) p in
-        within-at t placed (own t l) h a i (ap (λ (x : ℕ). own t x a) (sym e) ∙ and-r (paired t (f .0) s) _ (f .2)))
-        (or-cases (not (writes t s) && own t s a) _ q))
+        within-at t placed (own t l) h a i
+        (ap (λ (x : ℕ). own t x a) (sym e) ∙ and-r (reads t (f .0)) _ (and-r (paired t (f .0) s) _ (f .2))))
+        (or-cases (not (writes t s) && ownWriter t s a) _ q))
 
     intruded : (r : ℕ) → r < t .count → intruding t placed w r ≡ true → some (t .count) bars ≡ true
     unfolding intruding opens
@@ -105,7 +111,7 @@ module _ {t : Table} (good : GoodTable t) (placed : ℕ → Bool) (w : ℕ) wher
             (s .3) i (rw (s .2) (or-true (not (writes t (s .0)) && rereads t (s .0) r))) (q .0) (pair-ground r (s .0) i (s .2) (q .1)))
 
     barred : (v : ℕ) → v < t .count → bars v ≡ true → some (t .count) (intruding t placed w) ≡ true
-    unfolding guards intruding opens grounds
+    unfolding guards intruding opens grounds ownWriter rereads
     barred v i h =
         ⊎-elim at-read at-pair (or-cases (not (writes t v) && rereads t v b) (paired t b v) (q .1 .2))
       where
@@ -131,9 +137,10 @@ module _ {t : Table} (good : GoodTable t) (placed : ℕ → Bool) (w : ℕ) wher
         at-read : (not (writes t v) && rereads t v b) ≡ true → some (t .count) (intruding t placed w) ≡ true
         at-read o =
             let n : writes t v ≡ false = not-true _ (and-l _ (rereads t v b) o) in
+            let u : reads t v ≡ true = search (and-l, and-r) in
             intrudes v i same other
             (rw (is-open-read t placed v b n absent (q .1 .1) (and-r (not (writes t v)) _ o) (q .1 .3)
-            (at-within t placed (own t v) (λ a l m. within-at t placed (grounds t v) (q .0) a l (rw (n, m))))))
+            (at-within t placed (own t v) (λ a l m. within-at t placed (grounds t v) (q .0) a l (rw (n, u, m))))))
 
         at-pair : paired t b v ≡ true → some (t .count) (intruding t placed w) ≡ true
         at-pair p =
@@ -141,8 +148,8 @@ module _ {t : Table} (good : GoodTable t) (placed : ℕ → Bool) (w : ℕ) wher
             (ap (eqb (hart t w)) (po-hart t b v (paired-parts t b v p .0)) ∙ other)
             (rw (is-open-pair t placed b v (q .1 .3) i p absent
             (at-within t placed (own t b) (λ a l m. within-at t placed (grounds t v) (q .0) a l
-            (rw (some-at (t .count) (λ l. paired t l v && own t l a) b (q .1 .1) (rw (p, m)))
-            (or-true (not (writes t v) && own t v a)))))) (or-true (openRead t placed b)))
+            (rw (some-at (t .count) (λ l. paired t l v && ownWriter t l a) b (q .1 .1) (rw (p, pair-reads t b v p, m)))
+            (or-true (not (writes t v) && ownWriter t v a)))))) (or-true (openRead t placed b)))
 
     intruding-bars : some (t .count) (intruding t placed w) ≡ some (t .count) bars
     intruding-bars =

@@ -33,7 +33,7 @@ opens t v b = not (writes t v) && rereads t v b || paired t b v
 
 -- ground: w has to be placed before v's window is open. The own writers, of an SC those of its LR.
 unfoldable pub grounds : Table → ℕ → ℕ → Bool
-grounds t v w = not (writes t v) && own t v w || some (t .count) (λ l. paired t l v && own t l w)
+grounds t v w = not (writes t v) && ownWriter t v w || some (t .count) (λ l. paired t l v && ownWriter t l w)
 
 -- v's window is open, unless v is placed
 unfoldable pub isOpen : Table → (ℕ → Bool) → ℕ → Bool
