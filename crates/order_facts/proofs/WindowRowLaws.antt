@@ -48,10 +48,10 @@ module _ (t : Table) (room : t .count ≤ capacity) (v : ℕ) where
       not-either _ (bits-of t f k ∙ rw (lt-ltb k n l, h)) (ap (λ (m : ℕ). bit m k) z ∙ bit-zero k))
 
   -- b is a later reader of v's location, m a later writer
-  abbrev rereader : ℕ → Bool
+  abbrev pub rereader : ℕ → Bool
   rereader b = reads t b && sameLocation t b v && po t v b
 
-  abbrev overwriter : ℕ → Bool
+  abbrev pub overwriter : ℕ → Bool
   overwriter m = writes t m && sameLocation t m v && po t v m
 
   pub rereaders-set : maskBy t rereader ≡ bitAnd (bitAnd (maskBy t (reads t)) (placeOf t v)) (from (suc v) (hartOf t v))

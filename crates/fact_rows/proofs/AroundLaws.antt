@@ -1,0 +1,154 @@
+-- Each row, from what is known of an event.
+use Prim.Native.Nat.{ℕ, suc, _+_, _^_, _≤_, _<_}
+use native.Mathlib.Numerals.{add-one}
+use native.Mathlib.Omega.{arith}
+use mathlib.Core.Path.{_≡_, refl, sym, ap, ap₂, _∙_}
+use mathlib.Core.Bool.{Bool, true, false, cond, _&&_, _||_, and-true, and-false, or-false, true≢false}
+use lib.Bits.{bitAnd, bitOr, bitXor, or-zero-r}
+use borrow.Author.Tests.{eq-eqb, ne-eqb, eqb-true, eqb-false, lt-ltb, le-ltb, ltb-true}
+use lib.Count.{trailingZeros}
+use lib.Dec.{eqb, ltb}
+use Rattle.lists.proofs.BoolLaws.{bool-ext}
+use Rattle.masks.specs.Bit.{bit}
+use Rattle.masks.proofs.BitLaws.{bit-and, bit-or, bit-pow}
+use Rattle.masks.proofs.PowerLaws.{bits-same, trailing-lowest}
+use Rattle.table.specs.declared.Event.{Event}
+use Rattle.table.specs.declared.Table.{Table}
+use Rattle.table.specs.Events.{capacity, store, readingKind, writingKind, event, kind, reads, writes}
+use Rattle.order_facts.specs.Facts.{maskBy, ownWriter, needed, here, peers}
+use Rattle.order_facts.proofs.RowLaws.{from, under, bit-under, hartOf, own-row, here-row, peer-row, needs-row, guard-row}
+use Rattle.order_facts.proofs.WindowRowLaws.{rereader, overwriter, rereaders-set, overwriters-set, window-none, window-all, window-first}
+use Rattle.fact_rows.specs.declared.Around.{Around}
+use Rattle.fact_rows.specs.Around.{Known, Row, GuardRow, RereadRow}
+
+-- a mask's bits up to bit s
+up-to : (s m : ℕ) → bitOr (under s m) (bitAnd m (2 ^ s)) ≡ under (suc s) m
+up-to s m = bits-same _ _ (λ k.
+    bit-or (under s m) (bitAnd m (2 ^ s)) k
+    ∙ ap₂ (λ (x y : Bool). x || y) (bit-under s m k) (bit-and m (2 ^ s) k ∙ ap (λ (x : Bool). bit m k && x) (bit-pow s k))
+    ∙ go k (eqb s k) refl ∙ sym (bit-under (suc s) m k))
+  where
+    go : (k : ℕ) (b : Bool) → eqb s k ≡ b → (ltb k s && bit m k || bit m k && b) ≡ (ltb k (suc s) && bit m k)
+    go k true q =
+        let e : s ≡ k = eqb-true s k q in
+        rw (le-ltb k s (omega arith), lt-ltb k (suc s) (omega arith)) (and-true (bit m k))
+    go k false q =
+        rw (and-false (bit m k), or-false (ltb k s && bit m k)) (ap (λ (x : Bool). x && bit m k)
+        (bool-ext (ltb k s) (ltb k (suc s)) (λ h. lt-ltb k (suc s) (omega (arith, ltb-true k s h)))
+        (λ h. lt-ltb k s (omega (arith, ltb-true k (suc s) h, eqb-false s k q)))))
+
+-- the lowest bit of a mask of 32
+pub lowest-room : (m : ℕ) → (m ≡ 0 → ⊥) → m < 2 ^ 32 → trailingZeros 32 m < 32
+lowest-room m z l = trailing-lowest 32 m (omega (arith, z)) l .0
+
+module _ (a : Around) where
+  reads-is : (t : Table) → Known t a → readingKind (a .event .kind) ≡ reads t (a .number)
+  unfolding reads kind
+  reads-is t k = ap (λ (x : Event). readingKind (x .kind)) (k .here)
+
+  writes-is : (t : Table) → Known t a → writingKind (a .event .kind) ≡ writes t (a .number)
+  unfolding writes kind
+  writes-is t k = ap (λ (x : Event). writingKind (x .kind)) (k .here)
+
+  -- the row that stands there if a test passes, else none
+  if-row : (b : Bool) (r s : ℕ) → b ≡ true → r ≡ s → r ≡ cond b s 0
+  if-row true r s h q = q
+  if-row false r s h q = absurd (true≢false (sym h))
+
+  else-row : (b : Bool) (s : ℕ) → b ≡ false → 0 ≡ cond b s 0
+  else-row true s h = absurd (true≢false h)
+  else-row false s h = refl
+
+  pub own-some : (u r : ℕ) → readingKind (a .event .kind) ≡ true → u ≡ under (a .number) (a .hart) →
+      r ≡ bitAnd (bitAnd (a .writers) (a .place)) u → Row ownWriter a r
+  own-some u r h q e t k =
+      if-row (reads t (a .number)) r _ (sym (reads-is t k) ∙ h)
+      (e ∙ ap₂ bitAnd (ap₂ bitAnd (k .writers) (k .place)) (q ∙ ap (under (a .number)) (k .hart)))
+      ∙ sym (own-row t (a .number))
+
+  pub own-none : readingKind (a .event .kind) ≡ false → Row ownWriter a 0
+  own-none h t k = else-row (reads t (a .number)) _ (sym (reads-is t k) ∙ h) ∙ sym (own-row t (a .number))
+
+  pub here-some : (r : ℕ) → writingKind (a .event .kind) ≡ true → r ≡ bitAnd (a .readers) (a .place) → Row here a r
+  here-some r h e t k =
+      if-row (writes t (a .number)) r _ (sym (writes-is t k) ∙ h) (e ∙ ap₂ bitAnd (k .readers) (k .place))
+      ∙ sym (here-row t (a .number))
+
+  pub here-none : writingKind (a .event .kind) ≡ false → Row here a 0
+  here-none h t k = else-row (writes t (a .number)) _ (sym (writes-is t k) ∙ h) ∙ sym (here-row t (a .number))
+
+  pub peer-some : (b r : ℕ) → writingKind (a .event .kind) ≡ true → b ≡ 2 ^ a .number →
+      r ≡ bitXor (bitAnd (a .writers) (a .place)) (bitAnd (bitAnd (a .writers) (a .place)) b) → Row peers a r
+  peer-some b r h q e t k =
+      if-row (writes t (a .number)) r _ (sym (writes-is t k) ∙ h)
+      (e ∙ ap₂ (λ (x y : ℕ). bitXor x (bitAnd x y)) (ap₂ bitAnd (k .writers) (k .place)) q)
+      ∙ sym (peer-row t (a .number) _ (k .counted) refl)
+
+  pub peer-none : writingKind (a .event .kind) ≡ false → Row peers a 0
+  peer-none h t k = else-row (writes t (a .number)) _ (sym (writes-is t k) ∙ h) ∙ sym (peer-row t (a .number) _ (k .counted) refl)
+
+  named-is : (u : ℕ) → u ≡ under (a .count) (bitOr (a .event .addr) (a .event .«data»)) → (t : Table) → Known t a →
+      u ≡ under (t .count) (bitOr (event t (a .number) .addr) (event t (a .number) .«data»))
+  named-is u q t k = q ∙ ap₂ (λ (n : ℕ) (x : Event). under n (bitOr (x .addr) (x .«data»))) (k .total) (k .here)
+
+  kind-is : (t : Table) → Known t a → a .event .kind ≡ kind t (a .number)
+  unfolding kind
+  kind-is t k = ap (λ (x : Event). x .kind) (k .here)
+
+  pub needs-plain : (u : ℕ) → u ≡ under (a .count) (bitOr (a .event .addr) (a .event .«data»)) → a .event .kind ≡ store →
+      Row needed a u
+  needs-plain u q h t k =
+      named-is u q t k ∙ sym (or-zero-r _)
+      ∙ ap (λ (b : Bool). bitOr (under (t .count) (bitOr (event t (a .number) .addr) (event t (a .number) .«data»))) (cond b 0 (2 ^ a .number)))
+      (sym (eq-eqb (kind t (a .number)) store (sym (kind-is t k) ∙ h)))
+      ∙ sym (needs-row t (a .number) (k .counted))
+
+  pub needs-itself : (u b r : ℕ) → u ≡ under (a .count) (bitOr (a .event .addr) (a .event .«data»)) → b ≡ 2 ^ a .number →
+      (a .event .kind ≡ store → ⊥) → r ≡ bitOr u b → Row needed a r
+  needs-itself u b r q p h e t k =
+      e ∙ ap₂ bitOr (named-is u q t k) p
+      ∙ ap (λ (c : Bool). bitOr (under (t .count) (bitOr (event t (a .number) .addr) (event t (a .number) .«data»))) (cond c 0 (2 ^ a .number)))
+      (sym (ne-eqb (kind t (a .number)) store (λ i. h (kind-is t k ∙ i))))
+      ∙ sym (needs-row t (a .number) (k .counted))
+
+  pub guard-some : (windows l r : ℕ) → writingKind (a .event .kind) ≡ true → l ≡ bitXor (a .place) (bitAnd (a .place) (a .hart)) →
+      r ≡ bitAnd l windows → GuardRow windows a r
+  guard-some windows l r h q e t k g =
+      if-row (writes t (a .number)) r _ (sym (writes-is t k) ∙ h)
+      (e ∙ ap (λ (x : ℕ). bitAnd x windows) (q ∙ ap₂ (λ (x y : ℕ). bitXor x (bitAnd x y)) (k .place) (k .hart)))
+      ∙ sym (guard-row t (a .number) windows g)
+
+  pub guard-none : (windows : ℕ) → writingKind (a .event .kind) ≡ false → GuardRow windows a 0
+  guard-none windows h t k g =
+      else-row (writes t (a .number)) _ (sym (writes-is t k) ∙ h) ∙ sym (guard-row t (a .number) windows g)
+
+  room : (t : Table) → Known t a → t .count ≤ capacity
+  room t k = omega (arith, k .small)
+
+  -- what reads again
+  pub reread-none : readingKind (a .event .kind) ≡ false → RereadRow a 0
+  reread-none h t k w = sym (window-none t (room t k) (a .number) w (sym (reads-is t k) ∙ h))
+
+  module _ (h : readingKind (a .event .kind) ≡ true) (later again stops : ℕ) (q : later ≡ from (a .number + 1) (a .hart))
+      (g : again ≡ bitAnd (bitAnd (a .readers) (a .place)) later) (s : stops ≡ bitAnd (bitAnd (a .writers) (a .place)) later) where
+    later-is : (t : Table) → Known t a → later ≡ from (suc (a .number)) (hartOf t (a .number))
+    later-is t k = q ∙ ap₂ from (add-one (a .number)) (k .hart)
+
+    again-is : (t : Table) (k : Known t a) → again ≡ maskBy t (rereader t (room t k) (a .number))
+    again-is t k =
+        g ∙ ap₂ bitAnd (ap₂ bitAnd (k .readers) (k .place)) (later-is t k) ∙ sym (rereaders-set t (room t k) (a .number))
+
+    stops-is : (t : Table) (k : Known t a) → stops ≡ maskBy t (overwriter t (room t k) (a .number))
+    stops-is t k =
+        s ∙ ap₂ bitAnd (ap₂ bitAnd (k .writers) (k .place)) (later-is t k) ∙ sym (overwriters-set t (room t k) (a .number))
+
+    pub reread-all : stops ≡ 0 → RereadRow a again
+    reread-all z t k w =
+        again-is t k ∙ sym (window-all t (room t k) (a .number) w (sym (reads-is t k) ∙ h) (sym (stops-is t k) ∙ z))
+
+    pub reread-first : (stops ≡ 0 → ⊥) → (first u b r : ℕ) → first ≡ trailingZeros 32 stops → u ≡ under first again →
+        b ≡ 2 ^ first → r ≡ bitOr u (bitAnd again b) → RereadRow a r
+    reread-first z first u b r f p i e t k w =
+        e ∙ ap₂ (λ (x y : ℕ). bitOr x (bitAnd again y)) p i ∙ up-to first again ∙ ap (under (suc first)) (again-is t k)
+        ∙ sym (window-first t (room t k) (a .number) w (sym (reads-is t k) ∙ h) (λ o. z (stops-is t k ∙ o)) first
+        (f ∙ ap (trailingZeros 32) (stops-is t k)))

@@ -1,0 +1,16 @@
+use native.Mathlib.Nat.{lt-of-le-of-lt, div-mul-le-self, mod-eq-of-lt}
+use borrow.Author.Needs.{needs}
+use Rattle.fact_rows.proofs.from.Statement.{statement}
+use Rattle.fact_rows.proofs.from.Tie as tie
+
+shr-result : tie.Need-shr-result
+shr-result c = search needs
+
+shl-result : tie.Need-shl-result
+shl-result c = search needs
+
+returns : tie.Need-returns
+returns c = mod-eq-of-lt (lt-of-le-of-lt (div-mul-le-self _ _) (c .fits .m .fits))
+
+pub from-spec : {M : Type 1} → statement M
+from-spec = tie.close (tie.spec shr-result shl-result returns)

@@ -1,0 +1,29 @@
+use mathlib.Core.Path.{sym, _∙_}
+use Rattle.fact_rows.proofs.AroundLaws.{peer-some, peer-none}
+use borrow.Author.Needs.{needs}
+use Rattle.fact_rows.proofs.peer_row.Statement.{statement}
+use Rattle.fact_rows.proofs.peer_row.Tie as tie
+
+writes-requires : tie.Need-writes-requires
+writes-requires c κs = search needs
+
+cast-one : tie.Need-cast-one
+cast-one c = search needs
+
+one-requires : tie.Need-one-requires
+one-requires c κs = search needs
+
+less-requires : tie.Need-less-requires
+less-requires c κs = search needs
+
+returns : tie.Need-returns
+returns c =
+    peer-some _ _ _ (sym (c .before .before .before .before .before .writes .ensures) ∙ c .before .before .before .before .if1 .taken)
+    (c .before .one .ensures) (c .less .ensures)
+
+returns-2 : tie.Need-returns-2
+returns-2 c = peer-none _ (sym (c .before .writes .ensures) ∙ c .if1 .left)
+
+pub peer-row-spec : {M : Type 1} → statement M
+peer-row-spec =
+    tie.close (tie.spec writes-requires cast-one one-requires less-requires returns returns-2)

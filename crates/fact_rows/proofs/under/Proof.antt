@@ -1,0 +1,14 @@
+use mathlib.Core.Path.{ap}
+use lib.Bits.{bitXor}
+use borrow.Author.Needs.{needs}
+use Rattle.fact_rows.proofs.under.Statement.{statement}
+use Rattle.fact_rows.proofs.under.Tie as tie
+
+from-requires : tie.Need-from-requires
+from-requires c κs = search needs
+
+returns : tie.Need-returns
+returns c = ap (bitXor (c .before .args .m)) (c .from .ensures)
+
+pub under-spec : {M : Type 1} → statement M
+under-spec = tie.close (tie.spec from-requires returns)

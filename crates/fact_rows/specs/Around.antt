@@ -1,0 +1,34 @@
+-- What the rows of an event are made from.
+use Prim.Native.Nat.{ℕ, _<_}
+use mathlib.Core.Path.{_≡_}
+use mathlib.Core.Bool.{Bool, false}
+use lib.Dec.{eqb}
+use Rattle.lists.specs.Below.{some}
+use Rattle.table.specs.declared.Table.{Table}
+use Rattle.table.specs.Events.{capacity, event, hart, reads, writes, sameLocation}
+use Rattle.order_facts.specs.Facts.{maskBy, opens, guards}
+use Rattle.fact_rows.specs.declared.Around.{Around}
+
+-- an event of the table, with sets of events: the readers, the writers, those at its location and those of its hart
+pub record Known (t : Table) (a : Around) : Type 0 where
+  pub small : t .count < capacity
+  pub total : a .count ≡ t .count
+  pub counted : a .number < t .count
+  pub here : a .event ≡ event t (a .number)
+  pub readers : a .readers ≡ maskBy t (reads t)
+  pub writers : a .writers ≡ maskBy t (writes t)
+  pub place : a .place ≡ maskBy t (λ k. sameLocation t k (a .number))
+  pub hart : a .hart ≡ maskBy t (λ k. eqb (hart t k) (hart t (a .number)))
+
+-- r is the mask of the events that pass with it
+abbrev pub Row : (Table → ℕ → ℕ → Bool) → Around → ℕ → Type 0
+Row test a r = (t : Table) → Known t a → r ≡ maskBy t (test t (a .number))
+
+-- the same where the windows are known
+abbrev pub GuardRow : ℕ → Around → ℕ → Type 0
+GuardRow windows a r =
+    (t : Table) → Known t a → windows ≡ maskBy t (λ v. some (t .count) (opens t v)) → r ≡ maskBy t (guards t (a .number))
+
+-- the window of an event that doesn't write
+abbrev pub RereadRow : Around → ℕ → Type 0
+RereadRow a r = (t : Table) → Known t a → writes t (a .number) ≡ false → r ≡ maskBy t (opens t (a .number))

@@ -1,0 +1,129 @@
+// The rows of a table's facts (crate `order_facts`), each from sets of events.
+use masks::lowest_set;
+use masks::one;
+use table::Event;
+use table::Kind;
+ghost use Prim.Native.Nat.{suc, _/_, _*_, _^_, _<_};
+ghost use mathlib.Core.Path.{_≡_};
+ghost use lib.Bits.{bitAnd, bitXor};
+ghost use Rattle.table.specs.Events.{capacity};
+ghost use Rattle.order_facts.specs.Facts.{ownWriter, needed, here, peers};
+ghost use Rattle.fact_rows.specs.Around.{Row, GuardRow, RereadRow};
+
+// An event with its number, the number of events, the readers and the writers, the events at its location and those of its hart.
+pub struct Around {
+    pub count: u8,
+    pub number: u8,
+    pub event: Event,
+    pub readers: u32,
+    pub writers: u32,
+    pub place: u32,
+    pub hart: u32,
+}
+
+// The bits of `m` from bit `e` on.
+fn from(m: u32, e: u32) -> u32
+    requires { ⌜ e < capacity ⌝ }
+    ensures { λ r. ⌜ r ≡ m / 2 ^ e * 2 ^ e ⌝ }
+{
+    (m >> e) << e
+}
+
+// The bits of `m` below bit `e`.
+fn under(m: u32, e: u32) -> u32
+    requires { ⌜ e < capacity ⌝ }
+    ensures { λ r. ⌜ r ≡ bitXor m (m / 2 ^ e * 2 ^ e) ⌝ }
+{
+    m ^ from(m, e)
+}
+
+// What is in `a` and not in `b`.
+fn less(a: u32, b: u32) -> u32
+    ensures { λ r. ⌜ r ≡ bitXor a (bitAnd a b) ⌝ }
+{
+    a ^ (a & b)
+}
+
+// Of a reader the writers at its location that are earlier on its hart.
+pub fn own_row(a: Around) -> u32
+    requires { ⌜ a .number < capacity ⌝ }
+    ensures { λ r. ⌜ Row ownWriter a r ⌝ }
+{
+    let x = a.event;
+    if table::reads(x) {
+        a.writers & a.place & under(a.hart, a.number as u32)
+    } else {
+        0
+    }
+}
+
+// Of a writer the readers at its location.
+pub fn here_row(a: Around) -> u32
+    ensures { λ r. ⌜ Row here a r ⌝ }
+{
+    let x = a.event;
+    if table::writes(x) {
+        a.readers & a.place
+    } else {
+        0
+    }
+}
+
+// Of a writer the others at its location.
+pub fn peer_row(a: Around) -> u32
+    requires { ⌜ a .number < capacity ⌝ }
+    ensures { λ r. ⌜ Row peers a r ⌝ }
+{
+    let x = a.event;
+    if table::writes(x) {
+        less(a.writers & a.place, one(a.number as u32))
+    } else {
+        0
+    }
+}
+
+// What has to be placed before `a` is returned from: what its address or data depends on, and itself unless it is a plain store.
+pub fn needs_row(a: Around) -> u32
+    requires { ⌜ (a .number < capacity) × (a .count < capacity) ⌝ }
+    ensures { λ r. ⌜ Row needed a r ⌝ }
+{
+    let x = a.event;
+    let named = under(x.addr | x.data, a.count as u32);
+    if x.kind == Kind::STORE {
+        named
+    } else {
+        named | one(a.number as u32)
+    }
+}
+
+// Of a writer the events at its location, of other harts, that have a window.
+pub fn guard_row(a: Around, windows: u32) -> u32
+    ensures { λ r. ⌜ GuardRow windows a r ⌝ }
+{
+    let x = a.event;
+    if table::writes(x) {
+        less(a.place, a.hart) & windows
+    } else {
+        0
+    }
+}
+
+// Of a reader that doesn't write those that read again: the later readers of its hart at its location, up to the first that
+// writes there.
+pub fn reread_row(a: Around) -> u32
+    requires { ⌜ suc (a .number) < capacity ⌝ }
+    ensures { λ r. ⌜ RereadRow a r ⌝ }
+{
+    let x = a.event;
+    if !table::reads(x) {
+        return 0;
+    }
+    let later = from(a.hart, a.number as u32 + 1);
+    let again = a.readers & a.place & later;
+    let stops = a.writers & a.place & later;
+    if stops == 0 {
+        return again;
+    }
+    let first = lowest_set(stops);
+    under(again, first) | (again & one(first))
+}
