@@ -11,15 +11,18 @@ use lib.Dec.{eqb, ltb}
 use Rattle.lists.proofs.BoolLaws.{bool-ext}
 use Rattle.masks.specs.Bit.{bit}
 use Rattle.masks.proofs.BitLaws.{bit-and, bit-or, bit-pow}
-use Rattle.masks.proofs.PowerLaws.{bits-same, trailing-lowest}
+use Rattle.masks.proofs.PowerLaws.{bits-same, trailing-lowest, and-pow, and-pow-set}
 use Rattle.table.specs.declared.Event.{Event}
 use Rattle.table.specs.declared.Table.{Table}
-use Rattle.table.specs.Events.{capacity, store, readingKind, writingKind, event, kind, reads, writes}
-use Rattle.order_facts.specs.Facts.{maskBy, ownWriter, needed, here, peers}
-use Rattle.order_facts.proofs.RowLaws.{from, under, bit-under, hartOf, own-row, here-row, peer-row, needs-row, guard-row}
+use Rattle.table.specs.Events.{capacity, store, lr, sc, readingKind, writingKind, event, kind, reads, writes}
+use Rattle.order_facts.specs.Facts.{maskBy, opens, ownWriter, needed, here, peers}
+use Rattle.order_facts.proofs.RowLaws.{from, under, bit-under, bits-of, hartOf, own-row, here-row, peer-row, needs-row, guard-row}
 use Rattle.order_facts.proofs.WindowRowLaws.{rereader, overwriter, rereaders-set, overwriters-set, window-none, window-all, window-first}
+use Rattle.order_facts.proofs.WindowRowLaws.{window-pair, window-unpaired}
+use Rattle.order_facts.proofs.PairRowLaws.{reserver, reservers-set, unpaired-other, unpaired-none, nearest-event, nearest-paired, nearest-unpaired}
+use Rattle.order_facts.specs.Highest.{highest}
 use Rattle.fact_rows.specs.declared.Around.{Around}
-use Rattle.fact_rows.specs.Around.{Known, Row, GuardRow, RereadRow}
+use Rattle.fact_rows.specs.Around.{Known, Row, GuardRow, RereadRow, PairRow}
 
 -- a mask's bits up to bit s
 up-to : (s m : ℕ) → bitOr (under s m) (bitAnd m (2 ^ s)) ≡ under (suc s) m
@@ -152,3 +155,48 @@ module _ (a : Around) where
         e ∙ ap₂ (λ (x y : ℕ). bitOr x (bitAnd again y)) p i ∙ up-to first again ∙ ap (under (suc first)) (again-is t k)
         ∙ sym (window-first t (room t k) (a .number) w (sym (reads-is t k) ∙ h) (λ o. z (stops-is t k ∙ o)) first
         (f ∙ ap (trailingZeros 32) (stops-is t k)))
+
+  -- the LR of an SC
+  pub pair-other : (reserving lrs : ℕ) → (a .event .kind ≡ sc → ⊥) → PairRow reserving lrs a 0
+  pair-other reserving lrs h t k p l w =
+      sym (window-unpaired t (room t k) (a .number) w
+      (unpaired-other t (room t k) (a .number) (ne-eqb (kind t (a .number)) sc (λ e. h (kind-is t k ∙ e)))))
+
+  module _ (h : a .event .kind ≡ sc) (reserving lrs u before : ℕ) (q : u ≡ under (a .number) (a .hart))
+      (b : before ≡ bitAnd reserving u) where
+    before-is : (t : Table) (k : Known t a) → reserving ≡ maskBy t (λ k. eqb (kind t k) lr || eqb (kind t k) sc) →
+        before ≡ maskBy t (reserver t (room t k) (a .number))
+    before-is t k p =
+        b ∙ ap₂ bitAnd p (q ∙ ap (under (a .number)) (k .hart)) ∙ sym (reservers-set t (room t k) (a .number))
+
+    pub pair-none : before ≡ 0 → PairRow reserving lrs a 0
+    pair-none z t k p l w =
+        sym (window-unpaired t (room t k) (a .number) w
+        (unpaired-none t (room t k) (a .number) (sym (before-is t k p) ∙ z)))
+
+    pub pair-nearest : (before ≡ 0 → ⊥) → (n o r : ℕ) → n ≡ highest before → o ≡ 2 ^ n → r ≡ bitAnd lrs o →
+        PairRow reserving lrs a r
+    pair-nearest z n o r f i e t k p l w =
+        e ∙ ap₂ bitAnd l i ∙ go (eqb (kind t n) lr) refl
+      where
+        some-before : maskBy t (reserver t (room t k) (a .number)) ≡ 0 → ⊥
+        some-before c = z (before-is t k p ∙ c)
+
+        top : n ≡ highest (maskBy t (reserver t (room t k) (a .number)))
+        top = f ∙ ap highest (before-is t k p)
+
+        counted : n < t .count
+        counted = nearest-event t (room t k) (a .number) some-before n top
+
+        is-lr : bit (maskBy t (λ k. eqb (kind t k) lr)) n ≡ eqb (kind t n) lr
+        is-lr = bits-of t (λ k. eqb (kind t k) lr) n ∙ ap (λ (x : Bool). x && eqb (kind t n) lr) (lt-ltb n (t .count) counted)
+
+        go : (c : Bool) → eqb (kind t n) lr ≡ c → bitAnd (maskBy t (λ k. eqb (kind t k) lr)) (2 ^ n) ≡ maskBy t (opens t (a .number))
+        go true c =
+            and-pow-set _ n (is-lr ∙ c)
+            ∙ sym (window-pair t (room t k) (a .number) w n counted
+            (nearest-paired t (room t k) (a .number) some-before n top
+            (eq-eqb (kind t (a .number)) sc (sym (kind-is t k) ∙ h)) c))
+        go false c =
+            and-pow _ n (is-lr ∙ c)
+            ∙ sym (window-unpaired t (room t k) (a .number) w (nearest-unpaired t (room t k) (a .number) some-before n top c))

@@ -1,11 +1,11 @@
 -- What the rows of an event are made from.
 use Prim.Native.Nat.{ℕ, _<_}
 use mathlib.Core.Path.{_≡_}
-use mathlib.Core.Bool.{Bool, false}
+use mathlib.Core.Bool.{Bool, true, false, _||_}
 use lib.Dec.{eqb}
 use Rattle.lists.specs.Below.{some}
 use Rattle.table.specs.declared.Table.{Table}
-use Rattle.table.specs.Events.{capacity, event, hart, reads, writes, sameLocation}
+use Rattle.table.specs.Events.{capacity, event, kind, hart, reads, writes, sameLocation, lr, sc}
 use Rattle.order_facts.specs.Facts.{maskBy, opens, guards}
 use Rattle.fact_rows.specs.declared.Around.{Around}
 
@@ -32,3 +32,9 @@ GuardRow windows a r =
 -- the window of an event that doesn't write
 abbrev pub RereadRow : Around → ℕ → Type 0
 RereadRow a r = (t : Table) → Known t a → writes t (a .number) ≡ false → r ≡ maskBy t (opens t (a .number))
+
+-- the window of a writer, where the LRs and SCs, and the LRs, are known
+abbrev pub PairRow : ℕ → ℕ → Around → ℕ → Type 0
+PairRow reserving lrs a r =
+    (t : Table) → Known t a → reserving ≡ maskBy t (λ k. eqb (kind t k) lr || eqb (kind t k) sc) →
+    lrs ≡ maskBy t (λ k. eqb (kind t k) lr) → writes t (a .number) ≡ true → r ≡ maskBy t (opens t (a .number))

@@ -7,8 +7,9 @@ ghost use Prim.Native.Nat.{suc, _/_, _*_, _^_, _<_};
 ghost use mathlib.Core.Path.{_≡_};
 ghost use lib.Bits.{bitAnd, bitXor};
 ghost use Rattle.table.specs.Events.{capacity};
+ghost use Rattle.order_facts.specs.Highest.{highest};
 ghost use Rattle.order_facts.specs.Facts.{ownWriter, needed, here, peers};
-ghost use Rattle.fact_rows.specs.Around.{Row, GuardRow, RereadRow};
+ghost use Rattle.fact_rows.specs.Around.{Row, GuardRow, RereadRow, PairRow};
 
 // An event with its number, the number of events, the readers and the writers, the events at its location and those of its hart.
 pub struct Around {
@@ -38,10 +39,21 @@ fn under(m: u32, e: u32) -> u32
 }
 
 // What is in `a` and not in `b`.
-fn less(a: u32, b: u32) -> u32
+pub fn less(a: u32, b: u32) -> u32
     ensures { λ r. ⌜ r ≡ bitXor a (bitAnd a b) ⌝ }
 {
     a ^ (a & b)
+}
+
+// The highest bit of a mask.
+const TOP_BIT: u32 = 31;
+
+// The highest bit that is set in `m`.
+pub fn highest_set(m: u32) -> u32
+    requires { ⌜ 0 < m ⌝ }
+    ensures { λ r. ⌜ r ≡ highest m ⌝ }
+{
+    TOP_BIT - u32::leading_zeros(m)
 }
 
 // Of a reader the writers at its location that are earlier on its hart.
@@ -126,4 +138,20 @@ pub fn reread_row(a: Around) -> u32
     }
     let first = lowest_set(stops);
     under(again, first) | (again & one(first))
+}
+
+// Of an SC the LR that is paired with it: the nearest LR or SC before it on its hart, if that is an LR.
+pub fn pair_row(a: Around, reserving: u32, lrs: u32) -> u32
+    requires { ⌜ a .number < capacity ⌝ }
+    ensures { λ r. ⌜ PairRow reserving lrs a r ⌝ }
+{
+    let x = a.event;
+    if x.kind != Kind::SC {
+        return 0;
+    }
+    let before = reserving & under(a.hart, a.number as u32);
+    if before == 0 {
+        return 0;
+    }
+    lrs & one(highest_set(before))
 }

@@ -1,5 +1,7 @@
 // The test of a whole order in one pass: each entry is asked, by those placed before it, whether it may stand there. The facts
 // of the table are lent as one array of masks: a table by value would be copied at each call.
+use fact_rows::highest_set;
+use fact_rows::less;
 use masks::has;
 use masks::lowest_set;
 use masks::one;
@@ -15,7 +17,6 @@ ghost use Rattle.table.specs.Events.{capacity, reads, writes};
 ghost use Rattle.model.specs.Witness.{lawful, witness};
 ghost use Rattle.placing.specs.Guards.{mayRead, mayWrite, mayPlace, readsStated};
 ghost use Rattle.order_facts.specs.Facts.{mayEnd};
-ghost use Rattle.order_facts.specs.Highest.{highest};
 ghost use Rattle.order_test.specs.FactRows.{mask, hereRow, rightRow};
 ghost use Rattle.order_test.specs.Testing.{Tells, TellsGood, Judges, Fitting, openBy};
 
@@ -46,24 +47,6 @@ pub const GOOD: usize = 0;
 pub const ENDS: usize = 1;
 
 pub const UNMET: usize = 2;
-
-// The highest bit of a mask.
-const TOP_BIT: u32 = 31;
-
-// What is in `a` and not in `b`.
-fn less(a: u32, b: u32) -> u32
-    ensures { λ r. ⌜ r ≡ bitXor a (bitAnd a b) ⌝ }
-{
-    a ^ (a & b)
-}
-
-// The highest bit that is set in `m`.
-fn highest_set(m: u32) -> u32
-    requires { ⌜ 0 < m ⌝ }
-    ensures { λ r. ⌜ r ≡ highest m ⌝ }
-{
-    TOP_BIT - u32::leading_zeros(m)
-}
 
 // `e` may be placed as a reader: all its own writers are, or what their latest needs before it is returned from.
 fn may_read(facts: &[[u32; CAPACITY]; ROWS], placed: u32, e: u8) -> bool
