@@ -3,23 +3,25 @@ use Prim.Native.Nat.{ℕ, suc, _+_, _^_, _≤_, _<_}
 use native.Mathlib.Numerals.{add-one}
 use native.Mathlib.Omega.{arith}
 use mathlib.Core.Path.{_≡_, refl, sym, ap, ap₂, _∙_}
-use mathlib.Core.Bool.{Bool, true, false, cond, _&&_, _||_, and-true, and-false, or-false, true≢false}
+use mathlib.Core.Bool.{Bool, true, false, cond, _&&_, _||_, and-true, and-false, and-assoc, or-false, true≢false}
 use lib.Bits.{bitAnd, bitOr, bitXor, or-zero-r}
 use borrow.Author.Tests.{eq-eqb, ne-eqb, eqb-true, eqb-false, lt-ltb, le-ltb, ltb-true}
 use lib.Count.{trailingZeros}
 use lib.Dec.{eqb, ltb}
-use Rattle.lists.proofs.BoolLaws.{bool-ext}
+use Rattle.lists.proofs.BoolLaws.{bool-ext, eqb-comm}
 use Rattle.masks.specs.Bit.{bit}
 use Rattle.masks.proofs.BitLaws.{bit-and, bit-or, bit-pow}
 use Rattle.masks.proofs.PowerLaws.{bits-same, trailing-lowest, and-pow, and-pow-set}
 use Rattle.table.specs.declared.Event.{Event}
 use Rattle.table.specs.declared.Table.{Table}
 use Rattle.table.specs.Events.{capacity, store, lr, sc, readingKind, writingKind, event, kind, reads, writes}
-use Rattle.order_facts.specs.Facts.{maskBy, opens, ownWriter, needed, here, peers}
-use Rattle.order_facts.proofs.RowLaws.{from, under, bit-under, bits-of, hartOf, own-row, here-row, peer-row, needs-row, guard-row}
-use Rattle.order_facts.proofs.WindowRowLaws.{rereader, overwriter, rereaders-set, overwriters-set, window-none, window-all, window-first}
+use Rattle.order_facts.specs.Facts.{maskBy, opens, ownWriter, needed, here, right, peers}
+use Rattle.order_facts.proofs.RowLaws.{from, under, bit-under, bits-of, hartOf, own-row, here-row, peer-row, needs-row, guard-row, right-row}
+use Rattle.order_facts.proofs.WindowRowLaws.{rereader, overwriter, rereaders-set, overwriters-set}
+use Rattle.order_facts.proofs.WindowRowLaws.{window-none, window-all, window-first}
 use Rattle.order_facts.proofs.WindowRowLaws.{window-pair, window-unpaired}
-use Rattle.order_facts.proofs.PairRowLaws.{reserver, reservers-set, unpaired-other, unpaired-none, nearest-event, nearest-paired, nearest-unpaired}
+use Rattle.order_facts.proofs.PairRowLaws.{reserver, reservers-set, unpaired-other, unpaired-none}
+use Rattle.order_facts.proofs.PairRowLaws.{nearest-event, nearest-paired, nearest-unpaired}
 use Rattle.order_facts.specs.Highest.{highest}
 use Rattle.fact_rows.specs.declared.Around.{Around}
 use Rattle.fact_rows.specs.Around.{Known, Row, GuardRow, RereadRow, PairRow}
@@ -90,8 +92,12 @@ module _ (a : Around) where
   pub peer-none : writingKind (a .event .kind) ≡ false → Row peers a 0
   peer-none h t k = else-row (writes t (a .number)) _ (sym (writes-is t k) ∙ h) ∙ sym (peer-row t (a .number) _ (k .counted) refl)
 
+  -- what its address or data depends on
+  abbrev named : Table → ℕ
+  named t = under (t .count) (bitOr (event t (a .number) .addr) (event t (a .number) .«data»))
+
   named-is : (u : ℕ) → u ≡ under (a .count) (bitOr (a .event .addr) (a .event .«data»)) → (t : Table) → Known t a →
-      u ≡ under (t .count) (bitOr (event t (a .number) .addr) (event t (a .number) .«data»))
+      u ≡ named t
   named-is u q t k = q ∙ ap₂ (λ (n : ℕ) (x : Event). under n (bitOr (x .addr) (x .«data»))) (k .total) (k .here)
 
   kind-is : (t : Table) → Known t a → a .event .kind ≡ kind t (a .number)
@@ -102,7 +108,7 @@ module _ (a : Around) where
       Row needed a u
   needs-plain u q h t k =
       named-is u q t k ∙ sym (or-zero-r _)
-      ∙ ap (λ (b : Bool). bitOr (under (t .count) (bitOr (event t (a .number) .addr) (event t (a .number) .«data»))) (cond b 0 (2 ^ a .number)))
+      ∙ ap (λ (b : Bool). bitOr (named t) (cond b 0 (2 ^ a .number)))
       (sym (eq-eqb (kind t (a .number)) store (sym (kind-is t k) ∙ h)))
       ∙ sym (needs-row t (a .number) (k .counted))
 
@@ -110,7 +116,7 @@ module _ (a : Around) where
       (a .event .kind ≡ store → ⊥) → r ≡ bitOr u b → Row needed a r
   needs-itself u b r q p h e t k =
       e ∙ ap₂ bitOr (named-is u q t k) p
-      ∙ ap (λ (c : Bool). bitOr (under (t .count) (bitOr (event t (a .number) .addr) (event t (a .number) .«data»))) (cond c 0 (2 ^ a .number)))
+      ∙ ap (λ (c : Bool). bitOr (named t) (cond c 0 (2 ^ a .number)))
       (sym (ne-eqb (kind t (a .number)) store (λ i. h (kind-is t k ∙ i))))
       ∙ sym (needs-row t (a .number) (k .counted))
 
@@ -200,3 +206,18 @@ module _ (a : Around) where
         go false c =
             and-pow _ n (is-lr ∙ c)
             ∙ sym (window-unpaired t (room t k) (a .number) w (nearest-unpaired t (room t k) (a .number) some-before n top c))
+
+-- the readers that state the value written, gathered
+pub stating-is : (t : Table) (e readers m : ℕ) → readers ≡ maskBy t (here t e) →
+    m ≡ maskBy t (λ k. bit readers k && eqb (event t k .read) (event t e .written)) → m ≡ maskBy t (right t e)
+stating-is t e readers m q h = right-row t e m (λ k.
+    ap (λ (x : ℕ). bit x k) h ∙ bits-of t (λ k. bit readers k && eqb (event t k .read) (event t e .written)) k
+    ∙ sym (and-assoc (ltb k (t .count)) (bit readers k) _)
+    ∙ ap₂ (λ (x y : Bool). x && y)
+    (ap (λ (b : Bool). ltb k (t .count) && b) (ap (λ (x : ℕ). bit x k) q ∙ bits-of t (here t e) k)
+    ∙ twice (ltb k (t .count)) (here t e k) ∙ sym (bits-of t (here t e) k))
+    (eqb-comm (event t k .read) (event t e .written)))
+  where
+    twice : (a b : Bool) → (a && (a && b)) ≡ (a && b)
+    twice true b = refl
+    twice false b = refl

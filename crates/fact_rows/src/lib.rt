@@ -1,14 +1,17 @@
 // The rows of a table's facts (crate `order_facts`), each from sets of events.
+use masks::has;
 use masks::lowest_set;
 use masks::one;
+use masks::one_if;
 use table::Event;
 use table::Kind;
-ghost use Prim.Native.Nat.{suc, _/_, _*_, _^_, _<_};
+use table::Table;
+ghost use Prim.Native.Nat.{suc, _/_, _*_, _^_, _≤_, _<_};
 ghost use mathlib.Core.Path.{_≡_};
 ghost use lib.Bits.{bitAnd, bitXor};
 ghost use Rattle.table.specs.Events.{capacity};
 ghost use Rattle.order_facts.specs.Highest.{highest};
-ghost use Rattle.order_facts.specs.Facts.{ownWriter, needed, here, peers};
+ghost use Rattle.order_facts.specs.Facts.{maskBy, ownWriter, needed, here, right, peers};
 ghost use Rattle.fact_rows.specs.Around.{Row, GuardRow, RereadRow, PairRow};
 
 // An event with its number, the number of events, the readers and the writers, the events at its location and those of its hart.
@@ -154,4 +157,23 @@ pub fn pair_row(a: Around, reserving: u32, lrs: u32) -> u32
         return 0;
     }
     lrs & one(highest_set(before))
+}
+
+// Of the readers at the location that event `e` writes those that state its value.
+pub fn right_row(t: Table, e: u8, readers: u32) -> u32
+    requires { ⌜ (t .count ≤ capacity) × (e < t .count) × (readers ≡ maskBy t (here t e)) ⌝ }
+    ensures { λ r. ⌜ r ≡ maskBy t (right t e) ⌝ }
+{
+    let written = t.events[e as usize].written;
+    let mut mask: u32 = 0;
+    let mut r: u8 = 0;
+    while r < t.count {
+        mask = mask
+            | one_if(
+                has(readers, r as u32) & (t.events[r as usize].read == written),
+                r,
+            );
+        r += 1;
+    }
+    mask
 }

@@ -22,7 +22,8 @@ use Rattle.placing.specs.Guards.{rereads}
 use Rattle.placing.proofs.GoodTableLaws.{paired-once}
 use Rattle.order_facts.specs.Facts.{maskBy, ownWriter, opens, grounds}
 use Rattle.order_facts.proofs.WriteLaws.{pair-writes}
-use Rattle.order_facts.proofs.RowLaws.{from, under, below-or, bit-under, bits-of, mask-same, mask-both, mask-one, hartOf, placeOf, later-set}
+use Rattle.order_facts.proofs.RowLaws.{from, under, below-or, bit-under, bits-of, mask-same, mask-both, mask-one}
+use Rattle.order_facts.proofs.RowLaws.{hartOf, placeOf, later-set}
 
 -- the tests of a window in the order of the sets
 sorted : (p r s o : Bool) → (p && true && r && s && not o || false) ≡ (r && s && p && not o)

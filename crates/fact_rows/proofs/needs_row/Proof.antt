@@ -20,7 +20,8 @@ returns : tie.Need-returns
 returns c = needs-plain _ _ (c .before .before .under .ensures) (c .if1 .taken)
 
 returns-2 : tie.Need-returns-2
-returns-2 c = needs-itself _ _ _ _ (c .before .before .before .before .under .ensures) (c .one .ensures) (c .before .before .if1 .left) refl
+returns-2 c =
+    needs-itself _ _ _ _ (c .before .before .before .before .under .ensures) (c .one .ensures) (c .before .before .if1 .left) refl
 
 pub needs-row-spec : {M : Type 1} → statement M
 needs-row-spec =

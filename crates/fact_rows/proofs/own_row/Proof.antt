@@ -15,7 +15,8 @@ under-requires c κs = search needs
 
 returns : tie.Need-returns
 returns c =
-    own-some _ _ _ (sym (c .before .before .before .before .reads .ensures) ∙ c .before .before .before .if1 .taken) (c .under .ensures) refl
+    own-some _ _ _ (sym (c .before .before .before .before .reads .ensures) ∙ c .before .before .before .if1 .taken)
+    (c .under .ensures) refl
 
 returns-2 : tie.Need-returns-2
 returns-2 c = own-none _ (sym (c .before .reads .ensures) ∙ c .if1 .left)

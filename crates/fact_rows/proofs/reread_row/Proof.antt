@@ -34,7 +34,8 @@ from-requires c κs = search needs
 returns-2 : tie.Need-returns-2
 returns-2 c =
     let k = c .before .before .before .before .before in
-    reread-all _ (sym (k .before .reads .ensures) ∙ not-false _ (k .if1 .left)) _ _ _ (c .before .before .before .from .ensures) refl refl
+    reread-all _ (sym (k .before .reads .ensures) ∙ not-false _ (k .if1 .left)) _ _ _
+    (c .before .before .before .from .ensures) refl refl
     (c .if2 .taken)
 
 lowest-set-requires : tie.Need-lowest-set-requires
@@ -50,7 +51,8 @@ returns-3 : tie.Need-returns-3
 returns-3 c =
     let e = c .before .before .before in
     let k = e .before .before .before .before .before in
-    reread-first _ (sym (k .before .reads .ensures) ∙ not-false _ (k .if1 .left)) _ _ _ (e .before .before .before .from .ensures) refl refl
+    reread-first _ (sym (k .before .reads .ensures) ∙ not-false _ (k .if1 .left)) _ _ _
+    (e .before .before .before .from .ensures) refl refl
     (e .if2 .left) _ _ _ _ (c .before .before .lowest-set .ensures) (c .before .under .ensures) (c .one .ensures) refl
 
 pub reread-row-spec : {M : Type 1} → statement M
