@@ -14,6 +14,34 @@ ghost use Rattle.order_facts.specs.Highest.{highest};
 ghost use Rattle.order_facts.specs.Facts.{maskBy, ownWriter, needed, here, right, peers};
 ghost use Rattle.fact_rows.specs.Around.{Row, GuardRow, RereadRow, PairRow};
 
+// The rows of the facts: for each event the mask of those that its word says (crate `order_facts`).
+pub const OWN: usize = 0;
+
+pub const NEEDS: usize = 1;
+
+pub const WINDOW: usize = 2;
+
+pub const GROUND: usize = 3;
+
+pub const GUARDS: usize = 4;
+
+pub const HERE: usize = 5;
+
+pub const RIGHT: usize = 6;
+
+pub const PEERS: usize = 7;
+
+pub const SETS: usize = 8;
+
+pub const ROWS: usize = 9;
+
+// The words of the last row.
+pub const GOOD: usize = 0;
+
+pub const ENDS: usize = 1;
+
+pub const UNMET: usize = 2;
+
 // An event with its number, the number of events, the readers and the writers, the events at its location and those of its hart.
 pub struct Around {
     pub count: u8,

@@ -33,7 +33,7 @@ use Rattle.order_facts.specs.Facts.{maskBy, here, right, good, mayEnd, unmet}
 use Rattle.order_facts.proofs.MaskLaws.{mask-at}
 use Rattle.order_facts.proofs.GoodLaws.{good-more}
 use Rattle.order_facts.proofs.FinalLaws.{final-entries}
-use Rattle.order_test.specs.FactRows.{mask, Facts, goodWord, hereRow, rightRow, setRow, unmetWord}
+use Rattle.fact_rows.specs.FactRows.{mask, Facts, goodWord, hereRow, rightRow, setRow, unmetWord}
 use Rattle.order_test.specs.Testing.{Tells, TellsGood, Judges, Fitting}
 use Rattle.order_test.proofs.TellLaws.{mask-is, standing}
 

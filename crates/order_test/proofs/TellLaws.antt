@@ -22,8 +22,8 @@ use Rattle.order_facts.specs.Facts.{maskBy, ownWriter, needed, opens, grounds, 
 use Rattle.order_facts.proofs.MaskLaws.{bit-less, mask-at}
 use Rattle.order_facts.proofs.ReadLaws.{within-mask, read-none, stated-none, w-counted, read-some, stated-some}
 use Rattle.order_facts.proofs.WriteLaws.{bars, write-bars, open-mask}
-use Rattle.order_test.specs.FactRows.{row, mask, masksBy, Facts, ownRow, needsRow, windowRow, groundRow, guardRow, rightRow}
-use Rattle.order_test.specs.FactRows.{peerRow, setRow, endsWord}
+use Rattle.fact_rows.specs.FactRows.{row, mask, masksBy, Facts, ownRow, needsRow, windowRow, groundRow, guardRow, rightRow}
+use Rattle.fact_rows.specs.FactRows.{peerRow, setRow, endsWord}
 use Rattle.order_test.specs.Testing.{Tells, TellsGood, openBy}
 
 module _ {t : Table} {facts : List (List ℕ)} (f : Facts t facts) where

@@ -1,2 +1,1 @@
-pub mod FactRows
 pub mod Testing

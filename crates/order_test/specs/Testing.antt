@@ -12,7 +12,7 @@ use Rattle.table.specs.Events.{capacity}
 use Rattle.model.specs.Witness.{isOrder}
 use Rattle.model.specs.Prefixes.{clean}
 use Rattle.order_facts.specs.Facts.{maskBy, good}
-use Rattle.order_test.specs.FactRows.{mask, Facts, groundRow, windowRow}
+use Rattle.fact_rows.specs.FactRows.{mask, Facts, groundRow, windowRow}
 
 -- r is the test of event e
 abbrev pub Tells : List (List ℕ) → ℕ → (Table → Bool) → Bool → Type 0

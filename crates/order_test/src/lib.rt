@@ -1,5 +1,18 @@
 // The test of a whole order in one pass: each entry is asked, by those placed before it, whether it may stand there. The facts
 // of the table are lent as one array of masks: a table by value would be copied at each call.
+use fact_rows::ENDS;
+use fact_rows::GOOD;
+use fact_rows::GROUND;
+use fact_rows::GUARDS;
+use fact_rows::HERE;
+use fact_rows::NEEDS;
+use fact_rows::OWN;
+use fact_rows::PEERS;
+use fact_rows::RIGHT;
+use fact_rows::ROWS;
+use fact_rows::SETS;
+use fact_rows::UNMET;
+use fact_rows::WINDOW;
 use fact_rows::highest_set;
 use fact_rows::less;
 use masks::has;
@@ -17,36 +30,8 @@ ghost use Rattle.table.specs.Events.{capacity, reads, writes};
 ghost use Rattle.model.specs.Witness.{lawful, witness};
 ghost use Rattle.placing.specs.Guards.{mayRead, mayWrite, mayPlace, readsStated};
 ghost use Rattle.order_facts.specs.Facts.{mayEnd};
-ghost use Rattle.order_test.specs.FactRows.{mask, hereRow, rightRow};
+ghost use Rattle.fact_rows.specs.FactRows.{mask, hereRow, rightRow};
 ghost use Rattle.order_test.specs.Testing.{Tells, TellsGood, Judges, Fitting, openBy};
-
-// The rows of the facts: for each event the mask of those that its word says (crate `order_facts`).
-pub const OWN: usize = 0;
-
-pub const NEEDS: usize = 1;
-
-pub const WINDOW: usize = 2;
-
-pub const GROUND: usize = 3;
-
-pub const GUARDS: usize = 4;
-
-pub const HERE: usize = 5;
-
-pub const RIGHT: usize = 6;
-
-pub const PEERS: usize = 7;
-
-pub const SETS: usize = 8;
-
-pub const ROWS: usize = 9;
-
-// The words of the last row.
-pub const GOOD: usize = 0;
-
-pub const ENDS: usize = 1;
-
-pub const UNMET: usize = 2;
 
 // `e` may be placed as a reader: all its own writers are, or what their latest needs before it is returned from.
 fn may_read(facts: &[[u32; CAPACITY]; ROWS], placed: u32, e: u8) -> bool
@@ -61,7 +46,7 @@ fn may_read(facts: &[[u32; CAPACITY]; ROWS], placed: u32, e: u8) -> bool
 }
 
 // If `e` reads, it returns its stated value: what its latest own writer wrote, or what is at its location, by the mask `good`.
-fn reads_stated(facts: &[[u32; CAPACITY]; ROWS], placed: u32, good: u32, e: u8) -> bool
+pub fn reads_stated(facts: &[[u32; CAPACITY]; ROWS], placed: u32, good: u32, e: u8) -> bool
     requires { ⌜ e < capacity ⌝ }
     ensures { λ r. ⌜ TellsGood (now (facts .entry)) good e (λ t value. readsStated t (bit placed) value e) r ⌝ }
 {
@@ -150,7 +135,7 @@ fn may_stand(facts: &[[u32; CAPACITY]; ROWS], placed: u32, good: u32, e: u8) -> 
 }
 
 // The mask of the good once `e` is placed.
-fn good_after(facts: &[[u32; CAPACITY]; ROWS], good: u32, e: u8) -> u32
+pub fn good_after(facts: &[[u32; CAPACITY]; ROWS], good: u32, e: u8) -> u32
     requires { ⌜ e < capacity ⌝ }
     ensures { λ r. ⌜ r ≡
         bitOr (bitXor good (bitAnd good (mask (now (facts .entry)) hereRow e))) (mask (now (facts .entry)) rightRow e) ⌝ }
