@@ -28,7 +28,7 @@ fn held(t: Table, returned: &[u8], a: u64, b: u64) -> u16
     }
     let first = EventNo(a as u8);
     let second = EventNo(b as u8);
-    if !static_rules::may_order(first, t.events[a as usize], second, t.events[b as usize]) {
+    if !table::may_order(first, t.events[a as usize], second, t.events[b as usize]) {
         return 0;
     }
     rules::rule_set(t, returned, first, second)

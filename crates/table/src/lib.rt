@@ -124,6 +124,13 @@ pub fn program_order(a: EventNo, x: Event, b: EventNo, y: Event) -> bool
     (a.0 < b.0) & (x.hart == y.hart)
 }
 
+// "a is earlier on the same hart, both are memory events"
+pub fn may_order(a: EventNo, x: Event, b: EventNo, y: Event) -> bool
+    ensures { λ r. ⌜ r ≡ (ltb (a .0) (b .0) && eqb (x .hart) (y .hart) && memoryKind (x .kind) && memoryKind (y .kind)) ⌝ }
+{
+    program_order(a, x, b, y) & memory(x) & memory(y)
+}
+
 // Event m, which is z, is strictly between a and b in program order.
 pub fn between(a: EventNo, x: Event, m: EventNo, z: Event, b: EventNo, y: Event) -> bool
     ensures { λ r. ⌜ r ≡ (ltb (a .0) (m .0) && eqb (x .hart) (z .hart) && (ltb (m .0) (b .0) && eqb (z .hart) (y .hart))) ⌝ }

@@ -1,8 +1,8 @@
 // Preserved order: the lowest pair that the order breaks.
 use global_order::before;
-use static_rules::may_order;
 use table::EventNo;
 use table::Table;
+use table::may_order;
 ghost use Prim.Native.Nat.{_≤_, _<_};
 ghost use mathlib.Core.Path.{_≡_};
 ghost use lib.ListN.{length};

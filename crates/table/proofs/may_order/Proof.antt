@@ -1,8 +1,8 @@
 use mathlib.Core.Path.{ap₂}
 use mathlib.Core.Bool.{_&&_}
 use borrow.Author.Needs.{needs}
-use Rattle.static_rules.proofs.may_order.Statement.{statement}
-use Rattle.static_rules.proofs.may_order.Tie as tie
+use Rattle.table.proofs.may_order.Statement.{statement}
+use Rattle.table.proofs.may_order.Tie as tie
 
 program-order-requires : tie.Need-program-order-requires
 program-order-requires c κs = search needs
