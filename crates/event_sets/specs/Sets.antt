@@ -1,6 +1,6 @@
 -- The sets of a table's events, as masks: bit k stands for event k.
 use Prim.Native.Nat.{ℕ}
-use mathlib.Core.Bool.{Bool}
+use mathlib.Core.Bool.{Bool, _||_}
 use lib.Dec.{eqb}
 use Rattle.lists.specs.Below.{below}
 use Rattle.lists.specs.Lists.{keep}
@@ -8,7 +8,7 @@ use Rattle.lists.specs.Filled.{upTo}
 use Rattle.masks.specs.MaskOf.{maskOf}
 use Rattle.edition.specs.Limits.{maxHarts, maxLocations}
 use Rattle.table.specs.declared.Table.{Table}
-use Rattle.table.specs.Events.{hart, location, reads, writes}
+use Rattle.table.specs.Events.{kind, hart, location, reads, writes, lr, sc}
 use Rattle.table.specs.Annotations.{acquire, release, rcsc}
 use Rattle.event_sets.specs.declared.Sets.{Sets}
 
@@ -31,6 +31,7 @@ setsOf t =
       acquires = setOf t (acquire t);
       releases = setOf t (release t);
       rcscs = setOf t (rcsc t);
+      reserving = setOf t (λ e. eqb (kind t e) lr || eqb (kind t e) sc);
       harts = upTo maxHarts (hartSet t);
       locations = upTo maxLocations (locationSet t);
     }

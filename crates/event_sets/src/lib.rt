@@ -3,6 +3,7 @@
 use edition::EditionOne;
 use masks::one;
 use masks::one_if;
+use table::Kind;
 use table::LOCATIONS;
 use table::Table;
 ghost use mathlib.Core.Path.{_≡_};
@@ -19,6 +20,8 @@ pub struct Sets {
     pub acquires: u32,
     pub releases: u32,
     pub rcscs: u32,
+    // The LRs and SCs.
+    pub reserving: u32,
     pub harts: [u32; HARTS],
     pub locations: [u32; LOCATIONS],
 }
@@ -32,6 +35,7 @@ pub fn of_table(t: Table) -> Sets
     let mut acquires: u32 = 0;
     let mut releases: u32 = 0;
     let mut rcscs: u32 = 0;
+    let mut reserving: u32 = 0;
     let mut harts = [0u32; HARTS];
     let mut locations = [0u32; LOCATIONS];
     let mut k: u8 = 0;
@@ -42,6 +46,7 @@ pub fn of_table(t: Table) -> Sets
         acquires = acquires | one_if(synchronization::acquires(e), k);
         releases = releases | one_if(synchronization::releases(e), k);
         rcscs = rcscs | one_if(synchronization::rcsc(e), k);
+        reserving = reserving | one_if((e.kind == Kind::LR) | (e.kind == Kind::SC), k);
         let bit = one(k as u32);
         let h = e.hart as usize;
         harts[h] = harts[h] | bit;
@@ -55,6 +60,7 @@ pub fn of_table(t: Table) -> Sets
         acquires,
         releases,
         rcscs,
+        reserving,
         harts,
         locations,
     }

@@ -3,28 +3,31 @@ use Prim.Native.Nat.{ℕ, suc, _+_, _^_, _≤_, _<_}
 use native.Mathlib.Numerals.{add-one}
 use native.Mathlib.Omega.{arith}
 use mathlib.Core.Path.{_≡_, refl, sym, ap, ap₂, _∙_}
-use mathlib.Core.Bool.{Bool, true, false, cond, _&&_, _||_, and-true, and-false, and-assoc, or-false, true≢false}
+use mathlib.Core.Bool.{Bool, true, false, cond, _&&_, _||_, and-true, and-false, or-false, true≢false}
 use lib.Bits.{bitAnd, bitOr, bitXor, or-zero-r}
 use borrow.Author.Tests.{eq-eqb, ne-eqb, eqb-true, eqb-false, lt-ltb, le-ltb, ltb-true}
 use lib.Count.{trailingZeros}
 use lib.Dec.{eqb, ltb}
-use Rattle.lists.proofs.BoolLaws.{bool-ext, eqb-comm}
+use Rattle.lists.proofs.BoolLaws.{bool-ext}
 use Rattle.masks.specs.Bit.{bit}
 use Rattle.masks.proofs.BitLaws.{bit-and, bit-or, bit-pow}
 use Rattle.masks.proofs.PowerLaws.{bits-same, trailing-lowest, and-pow, and-pow-set}
 use Rattle.table.specs.declared.Event.{Event}
 use Rattle.table.specs.declared.Table.{Table}
 use Rattle.table.specs.Events.{capacity, store, lr, sc, readingKind, writingKind, event, kind, reads, writes}
-use Rattle.order_facts.specs.Facts.{maskBy, opens, ownWriter, needed, here, right, peers}
-use Rattle.order_facts.proofs.RowLaws.{from, under, bit-under, bits-of, hartOf, own-row, here-row, peer-row, needs-row, guard-row, right-row}
+use Rattle.placing.specs.GoodTable.{GoodTable}
+use Rattle.order_facts.specs.Facts.{maskBy, opens, ownWriter, needed, here, peers}
+use Rattle.order_facts.proofs.RowLaws.{from, under, bit-under, bits-of, mask-same, mask-both}
+use Rattle.order_facts.proofs.RowLaws.{hartOf, own-row, here-row, peer-row, needs-row, guard-row}
 use Rattle.order_facts.proofs.WindowRowLaws.{rereader, overwriter, rereaders-set, overwriters-set}
 use Rattle.order_facts.proofs.WindowRowLaws.{window-none, window-all, window-first}
-use Rattle.order_facts.proofs.WindowRowLaws.{window-pair, window-unpaired}
+use Rattle.order_facts.proofs.WindowRowLaws.{window-pair, window-unpaired, paired-by-window, unpaired-by-window}
+use Rattle.order_facts.proofs.WindowRowLaws.{ground-own, ground-unpaired, ground-set}
 use Rattle.order_facts.proofs.PairRowLaws.{reserver, reservers-set, unpaired-other, unpaired-none}
 use Rattle.order_facts.proofs.PairRowLaws.{nearest-event, nearest-paired, nearest-unpaired}
 use Rattle.order_facts.specs.Highest.{highest}
 use Rattle.fact_rows.specs.declared.Around.{Around}
-use Rattle.fact_rows.specs.Around.{Known, Row, GuardRow, RereadRow, PairRow}
+use Rattle.fact_rows.specs.Around.{Known, Row, GuardRow, RereadRow, PairRow, WindowRow, GroundRow}
 
 -- a mask's bits up to bit s
 up-to : (s m : ℕ) → bitOr (under s m) (bitAnd m (2 ^ s)) ≡ under (suc s) m
@@ -41,6 +44,15 @@ up-to s m = bits-same _ _ (λ k.
         rw (and-false (bit m k), or-false (ltb k s && bit m k)) (ap (λ (x : Bool). x && bit m k)
         (bool-ext (ltb k s) (ltb k (suc s)) (λ h. lt-ltb k (suc s) (omega (arith, ltb-true k s h)))
         (λ h. lt-ltb k s (omega (arith, ltb-true k (suc s) h, eqb-false s k q)))))
+
+-- of the LRs and SCs the LRs read
+lr-reads : (x : ℕ) → ((eqb x lr || eqb x sc) && readingKind x) ≡ eqb x lr
+lr-reads x = go (eqb x lr) (eqb x sc) refl refl
+  where
+    go : (b c : Bool) → eqb x lr ≡ b → eqb x sc ≡ c → ((b || c) && readingKind x) ≡ b
+    go true c h i = ap readingKind (eqb-true x lr h)
+    go false true h i = ap readingKind (eqb-true x sc i)
+    go false false h i = refl
 
 -- the lowest bit of a mask of 32
 pub lowest-room : (m : ℕ) → (m ≡ 0 → ⊥) → m < 2 ^ 32 → trailingZeros 32 m < 32
@@ -207,17 +219,34 @@ module _ (a : Around) where
             and-pow _ n (is-lr ∙ c)
             ∙ sym (window-unpaired t (room t k) (a .number) w (nearest-unpaired t (room t k) (a .number) some-before n top c))
 
--- the readers that state the value written, gathered
-pub stating-is : (t : Table) (e readers m : ℕ) → readers ≡ maskBy t (here t e) →
-    m ≡ maskBy t (λ k. bit readers k && eqb (event t k .read) (event t e .written)) → m ≡ maskBy t (right t e)
-stating-is t e readers m q h = right-row t e m (λ k.
-    ap (λ (x : ℕ). bit x k) h ∙ bits-of t (λ k. bit readers k && eqb (event t k .read) (event t e .written)) k
-    ∙ sym (and-assoc (ltb k (t .count)) (bit readers k) _)
-    ∙ ap₂ (λ (x y : Bool). x && y)
-    (ap (λ (b : Bool). ltb k (t .count) && b) (ap (λ (x : ℕ). bit x k) q ∙ bits-of t (here t e) k)
-    ∙ twice (ltb k (t .count)) (here t e k) ∙ sym (bits-of t (here t e) k))
-    (eqb-comm (event t k .read) (event t e .written)))
-  where
-    twice : (a b : Bool) → (a && (a && b)) ≡ (a && b)
-    twice true b = refl
-    twice false b = refl
+  -- of the LRs and SCs those that read are the LRs
+  lrs-are : (reserving : ℕ) (t : Table) → Known t a → reserving ≡ maskBy t (λ k. eqb (kind t k) lr || eqb (kind t k) sc) →
+      bitAnd reserving (a .readers) ≡ maskBy t (λ k. eqb (kind t k) lr)
+  unfolding reads
+  lrs-are reserving t k p =
+      ap₂ bitAnd p (k .readers) ∙ sym (mask-both t (λ k. eqb (kind t k) lr || eqb (kind t k) sc) (reads t))
+      ∙ mask-same t (λ k. (eqb (kind t k) lr || eqb (kind t k) sc) && reads t k) (λ k. eqb (kind t k) lr) (λ k l. lr-reads (kind t k))
+
+  pub window-writer : (reserving lrs r : ℕ) → writingKind (a .event .kind) ≡ true → lrs ≡ bitAnd reserving (a .readers) →
+      PairRow reserving lrs a r → WindowRow reserving a r
+  window-writer reserving lrs r h q p t k e = p t k e (q ∙ lrs-are reserving t k e) (sym (writes-is t k) ∙ h)
+
+  pub window-other : (reserving r : ℕ) → writingKind (a .event .kind) ≡ false → RereadRow a r → WindowRow reserving a r
+  window-other reserving r h p t k e = p t k (sym (writes-is t k) ∙ h)
+
+  -- what has to be placed before the window is open
+  pub ground-other : (window r : ℕ) → writingKind (a .event .kind) ≡ false → Row ownWriter a r → GroundRow window a r
+  ground-other window r h p t g k q = p t k ∙ sym (ground-own t (room t k) (a .number) (sym (writes-is t k) ∙ h))
+
+  pub ground-none : (window : ℕ) → writingKind (a .event .kind) ≡ true → window ≡ 0 → GroundRow window a 0
+  ground-none window h z t g k q =
+      let w : writes t (a .number) ≡ true = sym (writes-is t k) ∙ h in
+      sym (ground-unpaired t (room t k) (a .number) w (unpaired-by-window t (room t k) (a .number) w (sym q ∙ z)))
+
+  pub ground-writer : (window l u r : ℕ) → writingKind (a .event .kind) ≡ true → (window ≡ 0 → ⊥) → l ≡ trailingZeros 32 window →
+      u ≡ under l (a .hart) → r ≡ bitAnd (bitAnd (a .writers) (a .place)) u → GroundRow window a r
+  ground-writer window l u r h z f i e t g k q =
+      let w : writes t (a .number) ≡ true = sym (writes-is t k) ∙ h in
+      let p = paired-by-window t (room t k) (a .number) w (λ o. z (q ∙ o)) l (f ∙ ap (trailingZeros 32) q) in
+      e ∙ ap₂ bitAnd (ap₂ bitAnd (k .writers) (k .place)) (i ∙ ap (under l) (k .hart))
+      ∙ sym (ground-set t (room t k) (a .number) w l (p .0) (p .1) (g .pairs l (a .number) (p .0) (k .counted) (p .1)))

@@ -1,1 +1,2 @@
 pub mod AroundLaws
+pub mod PickLaws

@@ -1,12 +1,16 @@
 -- What the rows of an event are made from.
 use Prim.Native.Nat.{ℕ, _<_}
 use mathlib.Core.Path.{_≡_}
-use mathlib.Core.Bool.{Bool, true, false, _||_}
+use mathlib.Core.Bool.{Bool, true, false, _&&_, _||_}
+use mathlib.Core.List.{List}
+use lib.ListN.{getD}
 use lib.Dec.{eqb}
 use Rattle.lists.specs.Below.{some}
+use Rattle.masks.specs.Bit.{bit}
 use Rattle.table.specs.declared.Table.{Table}
 use Rattle.table.specs.Events.{capacity, event, kind, hart, reads, writes, sameLocation, lr, sc}
-use Rattle.order_facts.specs.Facts.{maskBy, opens, guards}
+use Rattle.placing.specs.GoodTable.{GoodTable}
+use Rattle.order_facts.specs.Facts.{maskBy, opens, grounds, guards}
 use Rattle.fact_rows.specs.declared.Around.{Around}
 
 -- an event of the table, with sets of events: the readers, the writers, those at its location and those of its hart
@@ -38,3 +42,17 @@ abbrev pub PairRow : ℕ → ℕ → Around → ℕ → Type 0
 PairRow reserving lrs a r =
     (t : Table) → Known t a → reserving ≡ maskBy t (λ k. eqb (kind t k) lr || eqb (kind t k) sc) →
     lrs ≡ maskBy t (λ k. eqb (kind t k) lr) → writes t (a .number) ≡ true → r ≡ maskBy t (opens t (a .number))
+
+-- the window of any event, where the LRs and SCs are known
+abbrev pub WindowRow : ℕ → Around → ℕ → Type 0
+WindowRow reserving a r =
+    (t : Table) → Known t a → reserving ≡ maskBy t (λ k. eqb (kind t k) lr || eqb (kind t k) sc) → r ≡ maskBy t (opens t (a .number))
+
+-- its ground, where the window is known
+abbrev pub GroundRow : ℕ → Around → ℕ → Type 0
+GroundRow window a r =
+    (t : Table) → GoodTable t → Known t a → window ≡ maskBy t (opens t (a .number)) → r ≡ maskBy t (grounds t (a .number))
+
+-- r is the mask of the readers that state the value; stated: what each states
+abbrev pub Stating : List ℕ → ℕ → ℕ → ℕ → Type 0
+Stating stated readers value r = (k : ℕ) → bit r k ≡ (bit readers k && eqb (getD stated k 0) value)

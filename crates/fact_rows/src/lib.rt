@@ -1,18 +1,17 @@
 // The rows of a table's facts (crate `order_facts`), each from sets of events.
-use masks::has;
 use masks::lowest_set;
+use masks::mask_if;
 use masks::one;
-use masks::one_if;
+use table::CAPACITY;
 use table::Event;
 use table::Kind;
-use table::Table;
-ghost use Prim.Native.Nat.{suc, _/_, _*_, _^_, _≤_, _<_};
+ghost use Prim.Native.Nat.{suc, _/_, _*_, _^_, _<_};
 ghost use mathlib.Core.Path.{_≡_};
 ghost use lib.Bits.{bitAnd, bitXor};
 ghost use Rattle.table.specs.Events.{capacity};
 ghost use Rattle.order_facts.specs.Highest.{highest};
-ghost use Rattle.order_facts.specs.Facts.{maskBy, ownWriter, needed, here, right, peers};
-ghost use Rattle.fact_rows.specs.Around.{Row, GuardRow, RereadRow, PairRow};
+ghost use Rattle.order_facts.specs.Facts.{ownWriter, needed, here, peers};
+ghost use Rattle.fact_rows.specs.Around.{Row, GuardRow, RereadRow, PairRow, WindowRow, GroundRow, Stating};
 
 // The rows of the facts: for each event the mask of those that its word says (crate `order_facts`).
 pub const OWN: usize = 0;
@@ -187,21 +186,46 @@ pub fn pair_row(a: Around, reserving: u32, lrs: u32) -> u32
     lrs & one(highest_set(before))
 }
 
-// Of the readers at the location that event `e` writes those that state its value.
-pub fn right_row(t: Table, e: u8, readers: u32) -> u32
-    requires { ⌜ (t .count ≤ capacity) × (e < t .count) × (readers ≡ maskBy t (here t e)) ⌝ }
-    ensures { λ r. ⌜ r ≡ maskBy t (right t e) ⌝ }
+// The window of an event: of a writer the LR that is paired with it, else what reads again.
+pub fn window_row(a: Around, reserving: u32) -> u32
+    requires { ⌜ suc (a .number) < capacity ⌝ }
+    ensures { λ r. ⌜ WindowRow reserving a r ⌝ }
 {
-    let written = t.events[e as usize].written;
+    let x = a.event;
+    if table::writes(x) {
+        // Of the LRs and SCs the LRs read.
+        pair_row(a, reserving, reserving & a.readers)
+    } else {
+        reread_row(a)
+    }
+}
+
+// What has to be placed before the window is open: the own writers, of a writer those of the LR that is paired with it.
+pub fn ground_row(a: Around, window: u32) -> u32
+    requires { ⌜ a .number < capacity ⌝ }
+    ensures { λ r. ⌜ GroundRow window a r ⌝ }
+{
+    let x = a.event;
+    if !table::writes(x) {
+        return own_row(a);
+    }
+    if window == 0 {
+        return 0;
+    }
+    a.writers & a.place & under(a.hart, lowest_set(window))
+}
+
+// Of the readers in a mask those that state the value; `stated` has what each states.
+pub fn right_row(stated: &[u16; CAPACITY], readers: u32, value: u16) -> u32
+    ensures { λ r. ⌜ Stating (now (stated .entry)) readers value r ⌝ }
+{
     let mut mask: u32 = 0;
-    let mut r: u8 = 0;
-    while r < t.count {
-        mask = mask
-            | one_if(
-                has(readers, r as u32) & (t.events[r as usize].read == written),
-                r,
-            );
-        r += 1;
+    let mut left = readers;
+    while left != 0 {
+        let r = lowest_set(left);
+        let bit = one(r);
+        mask = mask | mask_if(stated[r as usize] == value, bit);
+        left = left ^ bit;
     }
     mask
 }

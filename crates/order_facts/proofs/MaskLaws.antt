@@ -62,6 +62,10 @@ module _ (f : ℕ → Bool) (n : ℕ) where
   pub mask-at : (k : ℕ) → k < n → bit mask k ≡ f k
   mask-at k l = mask-below f n k ∙ ap (λ (s : Bool). s && f k) (lt-ltb k n l)
 
+  -- it isn't empty
+  pub mask-some : some n f ≡ not (eqb mask 0)
+  mask-some = some-same n f (bit mask) (λ a l. sym (mask-at a l)) ∙ none-set n mask (mask-below-lt f n n (omega arith))
+
   -- it meets another
   pub mask-meets : (b : ℕ) → some n (λ a. f a && bit b a) ≡ not (eqb (bitAnd mask b) 0)
   mask-meets b =

@@ -2,7 +2,7 @@
 use Prim.Native.Nat.{ℕ, suc, _^_, _≤_, _<_}
 use native.Mathlib.Omega.{arith}
 use mathlib.Core.Path.{_≡_, refl, sym, ap, ap₂, _∙_}
-use mathlib.Core.Bool.{Bool, true, false, not, _&&_, _||_, or-false, and-true, and-false}
+use mathlib.Core.Bool.{Bool, true, false, cond, not, _&&_, _||_, or-false, and-true, and-false}
 use lib.Bits.{bitAnd}
 use lib.Count.{trailingZeros}
 use lib.Dec.{eqb, ltb}
@@ -16,14 +16,14 @@ use Rattle.masks.proofs.PowerLaws.{bits-same, trailing-lowest}
 use Rattle.masks.proofs.MaskOfLaws.{mask-below-lt}
 use Rattle.masks.proofs.GatherLaws.{mask-none}
 use Rattle.table.specs.declared.Table.{Table}
-use Rattle.table.specs.Events.{capacity, location, reads, writes, sameLocation, po, between, paired}
+use Rattle.table.specs.Events.{capacity, lr, readingKind, kind, hart, location, reads, writes, sameLocation, po, between, paired}
 use Rattle.table.proofs.ProgramOrderLaws.{po-less, po-hart, is-po}
 use Rattle.placing.specs.Guards.{rereads}
-use Rattle.placing.proofs.GoodTableLaws.{paired-once}
+use Rattle.placing.proofs.GoodTableLaws.{paired-once, paired-parts}
 use Rattle.order_facts.specs.Facts.{maskBy, ownWriter, opens, grounds}
 use Rattle.order_facts.proofs.WriteLaws.{pair-writes}
 use Rattle.order_facts.proofs.RowLaws.{from, under, below-or, bit-under, bits-of, mask-same, mask-both, mask-one}
-use Rattle.order_facts.proofs.RowLaws.{hartOf, placeOf, later-set}
+use Rattle.order_facts.proofs.RowLaws.{hartOf, placeOf, later-set, own-row}
 
 -- the tests of a window in the order of the sets
 sorted : (p r s o : Bool) → (p && true && r && s && not o || false) ≡ (r && s && p && not o)
@@ -178,7 +178,31 @@ module _ (t : Table) (room : t .count ≤ capacity) (v : ℕ) where
         ∙ and-r (paired t (f .0) v) _ (f .2))
         (λ h. some-at n (λ l. paired t l v && ownWriter t l a) l i (rw (p, h)))))
 
+    -- its window tells which
+    pub paired-by-window : (maskBy t (opens t v) ≡ 0 → ⊥) → (l : ℕ) → l ≡ trailingZeros 32 (maskBy t (opens t v)) →
+        (l < n) × (paired t l v ≡ true)
+    paired-by-window z l q =
+        let f = trailing-lowest 32 (maskBy t (opens t v)) (omega (arith, z)) (mask-room (opens t v)) in
+        let h = sym (bits-of t (opens t v) l) ∙ ap (bit (maskBy t (opens t v))) q ∙ f .1 in
+        (ltb-true l n (and-l (ltb l n) _ h), sym (opens-paired l) ∙ and-r (ltb l n) _ h)
+
+    -- the own writers of an LR at v's location, by v's sets
+    pub ground-set : (l : ℕ) → l < n → paired t l v ≡ true → sameLocation t l v ≡ true → maskBy t (grounds t v)
+        ≡ bitAnd (bitAnd (maskBy t (writes t)) (placeOf t v)) (under l (hartOf t v))
+    unfolding reads sameLocation
+    ground-set l i p s =
+        let q = paired-parts t l v p in
+        ground-pair l i p ∙ own-row t l
+        ∙ ap (λ (b : Bool). cond b (bitAnd (bitAnd (maskBy t (writes t)) (placeOf t l)) (under l (hartOf t l))) 0)
+        (ap readingKind (eqb-true (kind t l) lr (q .1)))
+        ∙ ap₂ (λ (x h : ℕ). bitAnd (bitAnd (maskBy t (writes t)) (maskBy t (λ k. eqb (location t k) x)))
+        (under l (maskBy t (λ k. eqb (hart t k) h))))
+        (eqb-true (location t l) (location t v) s) (po-hart t l v (q .0))
+
     -- none is
+    pub unpaired-by-window : maskBy t (opens t v) ≡ 0 → (l : ℕ) → l < n → paired t l v ≡ false
+    unpaired-by-window z l i = sym (opens-paired l) ∙ none-in (opens t v) z l i
+
     pub window-unpaired : ((l : ℕ) → l < n → paired t l v ≡ false) → maskBy t (opens t v) ≡ 0
     unfolding maskBy
     window-unpaired h =

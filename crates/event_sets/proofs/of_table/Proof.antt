@@ -1,15 +1,16 @@
 use Prim.Native.Nat.{ℕ, _-_, _<_}
 use mathlib.Core.Path.{_≡_}
-use mathlib.Core.Bool.{true}
+use mathlib.Core.Bool.{true, _||_}
 use mathlib.Core.List.{List}
 use native.Mathlib.Omega.{arith}
+use lib.Dec.{eqb}
 use borrow.Author.Tests.{lt-ltb}
 use borrow.Author.Needs.{needs}
 use Rattle.masks.proofs.GatherLaws.{Gathered, gather-start, gather-more, gather-end}
 use Rattle.masks.proofs.SortLaws.{Sorted, sort-start, sort-one, sort-end}
 use Rattle.edition.specs.Limits.{maxHarts, maxLocations}
 use Rattle.table.specs.declared.Table.{Table}
-use Rattle.table.specs.Events.{event, hart, location, reads, writes}
+use Rattle.table.specs.Events.{event, kind, hart, location, reads, writes, lr, sc}
 use Rattle.table.specs.Annotations.{acquire, release, rcsc}
 use Rattle.table.proofs.EventTests.{ofEvents}
 use Rattle.event_sets.specs.declared.Sets.{Sets}
@@ -18,27 +19,29 @@ use Rattle.event_sets.proofs.of_table.Statement.{statement}
 use Rattle.event_sets.proofs.of_table.Tie as tie
 
 -- of the events those before k are sorted into the sets
-record Sorting (t : Table) (k readers writers acquires releases rcscs : ℕ) (harts locations : List ℕ) : Type 0 where
+record Sorting (t : Table) (k readers writers acquires releases rcscs reserving : ℕ) (harts locations : List ℕ) : Type 0 where
   readers-so-far : Gathered (reads t) (t .count) k readers
   writers-so-far : Gathered (writes t) (t .count) k writers
   acquires-so-far : Gathered (acquire t) (t .count) k acquires
   releases-so-far : Gathered (release t) (t .count) k releases
   rcscs-so-far : Gathered (rcsc t) (t .count) k rcscs
+  reserving-so-far : Gathered (λ e. eqb (kind t e) lr || eqb (kind t e) sc) (t .count) k reserving
   harts-so-far : Sorted (λ e. true) (hart t) maxHarts (t .count) k harts
   locations-so-far : Sorted (λ e. true) (location t) maxLocations (t .count) k locations
 
 -- sets with the same fields are the same
-sets-same : {r r′ w w′ a a′ l l′ s s′ : ℕ} {h h′ x x′ : List ℕ} → r ≡ r′ → w ≡ w′ → a ≡ a′ → l ≡ l′ → s ≡ s′ → h ≡ h′ → x ≡ x′ →
-    _≡_ {A = Sets} (record { readers = r; writers = w; acquires = a; releases = l; rcscs = s; harts = h; locations = x })
-    (record { readers = r′; writers = w′; acquires = a′; releases = l′; rcscs = s′; harts = h′; locations = x′ })
-sets-same p q d e f g i = cc
+sets-same : {r r′ w w′ a a′ l l′ s s′ o o′ : ℕ} {h h′ x x′ : List ℕ} →
+    r ≡ r′ → w ≡ w′ → a ≡ a′ → l ≡ l′ → s ≡ s′ → o ≡ o′ → h ≡ h′ → x ≡ x′ →
+    _≡_ {A = Sets} (record { readers = r; writers = w; acquires = a; releases = l; rcscs = s; reserving = o; harts = h; locations = x })
+    (record { readers = r′; writers = w′; acquires = a′; releases = l′; rcscs = s′; reserving = o′; harts = h′; locations = x′ })
+sets-same p q d e f g i j = cc
 
 abbrev Inv-loop : tie.InvT-loop
-Inv-loop t readers₀ writers₀ acquires₀ releases₀ rcscs₀ harts₀ locations₀ k₀ readers writers acquires releases rcscs harts locations k =
-    Sorting t k readers writers acquires releases rcscs harts locations
+Inv-loop t readers₀ writers₀ acquires₀ releases₀ rcscs₀ reserving₀ harts₀ locations₀ k₀ readers writers acquires releases rcscs reserving harts locations k =
+    Sorting t k readers writers acquires releases rcscs reserving harts locations
 
 abbrev μ-loop : tie.MeasureT-loop
-μ-loop t readers₀ writers₀ acquires₀ releases₀ rcscs₀ harts₀ locations₀ k₀ readers writers acquires releases rcscs harts locations k =
+μ-loop t readers₀ writers₀ acquires₀ releases₀ rcscs₀ reserving₀ harts₀ locations₀ k₀ readers writers acquires releases rcscs reserving harts locations k =
     t .count - k
 
 loop-holds : tie.Need-loop-holds Inv-loop μ-loop
@@ -50,6 +53,7 @@ loop-holds c =
       acquires-so-far = gather-start _ _;
       releases-so-far = gather-start _ _;
       rcscs-so-far = gather-start _ _;
+      reserving-so-far = gather-start _ _;
       harts-so-far = sort-start (λ e. true) (hart t) maxHarts (t .count);
       locations-so-far = sort-start (λ e. true) (location t) maxLocations (t .count);
     }
@@ -57,19 +61,28 @@ loop-holds c =
 hart-fits : tie.Need-array-read-harts Inv-loop μ-loop
 unfolding hart event
 hart-fits c =
-    let d = c .before .before .before .before .before .before .before .before .before .before .before .before .before in
+    let d = c .before .before .before .before .before .before .before .before .before .before .before .before .before .before .before .before in
     d .before .before .pre .each-hart (d .before .loop .k) (d .loop-test .taken)
 
 location-fits : tie.Need-array-read-locations Inv-loop μ-loop
 unfolding location event
 location-fits c =
-    let d = c .before .before .before .before .before .before .before .before .before .before .before .before .before .before in
+    let d = c .before .before .before .before .before .before .before .before .before .before .before .before .before .before .before .before .before in
     d .before .before .pre .each-location (d .before .loop .k) (d .loop-test .taken)
+
+add-fits : tie.Need-add-k Inv-loop μ-loop
+add-fits c =
+    let d = c .before .before .before .before .before .before .before .before .before .before .before .before .before .before .before .before .before in
+    record { fits = omega (arith, d .loop-test .taken, d .before .before .pre .events) }
+
+falls : tie.Need-loop-less Inv-loop μ-loop
+falls c = omega (arith, c .before .before .before .before .before .before .before .before .before .before .before .before .before .before .before .before .before .loop-test .taken)
 
 loop-again : tie.Need-loop-again Inv-loop μ-loop
 unfolding ofEvents
 loop-again c =
-    let fifth = c .before .before .before in
+    let sixth = c .before .before .before in
+    let fifth = sixth .before .before .before in
     let fourth = fifth .before .before in
     let third = fourth .before .before in
     let second = third .before .before in
@@ -86,6 +99,7 @@ loop-again c =
       acquires-so-far = gather-more _ _ _ _ _ (v .acquires-so-far) l (rw (third .before .acquires .ensures) at (third .one-if3 .ensures));
       releases-so-far = gather-more _ _ _ _ _ (v .releases-so-far) l (rw (fourth .before .releases .ensures) at (fourth .one-if4 .ensures));
       rcscs-so-far = gather-more _ _ _ _ _ (v .rcscs-so-far) l (rw (fifth .before .rcsc .ensures) at (fifth .one-if5 .ensures));
+      reserving-so-far = gather-more _ _ _ _ _ (v .reserving-so-far) l (sixth .one-if6 .ensures);
       harts-so-far =
           sort-one (λ e. true) (hart t) _ _ _ _ (v .harts-so-far) l _ (lt-ltb _ _ (small .each-hart k l)) (c .before .before .one .ensures);
       locations-so-far =
@@ -104,6 +118,7 @@ returns c =
     (gather-end _ _ _ _ (v .acquires-so-far) (omega arith))
     (gather-end _ _ _ _ (v .releases-so-far) (omega arith))
     (gather-end _ _ _ _ (v .rcscs-so-far) (omega arith))
+    (gather-end _ _ _ _ (v .reserving-so-far) (omega arith))
     (sort-end (λ e. true) (hart t) _ _ _ _ (v .harts-so-far) (omega arith))
     (sort-end (λ e. true) (location t) _ _ _ _ (v .locations-so-far) (omega arith))
 
@@ -127,6 +142,7 @@ of-table-spec =
     (λ c κs. search needs)
     (λ c κs. search needs)
     (λ c κs. search needs)
+    (λ c κs. search needs)
     (λ c. search needs)
     (λ c κs. search needs)
     (λ c. search needs)
@@ -139,7 +155,7 @@ of-table-spec =
     location-fits
     (λ c. search needs)
     location-fits
-    (λ c. search needs)
-    (λ c. search needs)
+    add-fits
+    falls
     loop-again
     returns)

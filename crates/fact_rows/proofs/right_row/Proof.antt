@@ -1,65 +1,57 @@
-use Prim.Native.Nat.{_-_}
+use Prim.Native.Nat.{ℕ, _<_}
 use native.Mathlib.Omega.{arith}
-use mathlib.Core.Bool.{_&&_}
 use lib.Dec.{eqb}
-use Rattle.masks.specs.Bit.{bit}
-use Rattle.masks.proofs.GatherLaws.{Gathered, gather-start, gather-more, gather-end}
-use Rattle.table.specs.Events.{event}
-use Rattle.order_facts.specs.Facts.{maskBy}
-use Rattle.fact_rows.proofs.AroundLaws.{stating-is}
+use lib.ListN.{getD}
+use Rattle.table.specs.Events.{capacity}
+use Rattle.fact_rows.proofs.PickLaws.{Picked, pick-start, pick-lowest, pick-less, pick-more, pick-end}
 use borrow.Author.Needs.{needs}
 use Rattle.fact_rows.proofs.right_row.Statement.{statement}
 use Rattle.fact_rows.proofs.right_row.Tie as tie
 
 abbrev Inv-loop : tie.InvT-loop
-Inv-loop e readers t written mask₀ r₀ mask r =
-    Gathered (λ k. bit readers k && eqb (event t k .read) written) (t .count) r mask
+Inv-loop stated readers value mask₀ left₀ mask left = Picked (λ (k : ℕ). eqb (getD stated k 0) value) capacity readers left mask
 
 abbrev μ-loop : tie.MeasureT-loop
-μ-loop e readers t written mask₀ r₀ mask r = t .count - r
+μ-loop stated readers value mask₀ left₀ mask left = left
 
-mul-written : tie.Need-mul-written Inv-loop μ-loop
-mul-written c = search needs
-
-element-copy-out-written : tie.Need-element-copy-out-written Inv-loop μ-loop
-element-copy-out-written c = search needs
+-- the lowest reader left is an event
+lowest : (c : tie.After-lowest-set Inv-loop μ-loop) → c .lowest-set .result < capacity
+lowest c = pick-lowest _ _ _ _ _ _ (c .before .before .loop .inv) (omega arith) (c .lowest-set .ensures) .0
 
 loop-holds : tie.Need-loop-holds Inv-loop μ-loop
-loop-holds c = gather-start _ _
+loop-holds c = pick-start _ capacity _ (c .fits .readers .fits)
 
-cast-has : tie.Need-cast-has Inv-loop μ-loop
-cast-has c = search needs
+lowest-set-requires : tie.Need-lowest-set-requires Inv-loop μ-loop
+lowest-set-requires c κs = search needs
 
-has-requires : tie.Need-has-requires Inv-loop μ-loop
-has-requires c κs = search needs
+one-requires : tie.Need-one-requires Inv-loop μ-loop
+one-requires c κs = lowest c
 
-cast-one-if : tie.Need-cast-one-if Inv-loop μ-loop
-cast-one-if c = search needs
+cast-mask-if : tie.Need-cast-mask-if Inv-loop μ-loop
+cast-mask-if c = search needs
 
-mul-one-if : tie.Need-mul-one-if Inv-loop μ-loop
-mul-one-if c = search needs
+mul-mask-if : tie.Need-mul-mask-if Inv-loop μ-loop
+mul-mask-if c = search needs
 
-element-copy-out-one-if : tie.Need-element-copy-out-one-if Inv-loop μ-loop
-element-copy-out-one-if c = search needs
+element-copy-out-mask-if : tie.Need-element-copy-out-mask-if Inv-loop μ-loop
+element-copy-out-mask-if c = lowest (c .before)
 
-one-if-requires : tie.Need-one-if-requires Inv-loop μ-loop
-one-if-requires c κs = search needs
-
-add-r : tie.Need-add-r Inv-loop μ-loop
-add-r c = search needs
+mask-if-requires : tie.Need-mask-if-requires Inv-loop μ-loop
+mask-if-requires c κs = search needs
 
 loop-less : tie.Need-loop-less Inv-loop μ-loop
-loop-less c = search needs
+loop-less c =
+    let k = c .before .before .before in
+    pick-less _ _ _ _ _ _ (k .before .before .loop .inv) (omega arith) (k .lowest-set .ensures) _ (c .before .before .one .ensures)
 
 loop-again : tie.Need-loop-again Inv-loop μ-loop
-unfolding event
 loop-again c =
-    gather-more _ _ _ _ _ (c .before .before .before .loop .inv) (omega arith) (rw (c .before .has .ensures) at (c .one-if .ensures))
+    let k = c .before .before .before in
+    pick-more _ _ _ _ _ _ (k .before .before .loop .inv) (omega arith) (k .lowest-set .ensures) _ _ (c .before .before .one .ensures)
+    (c .mask-if .ensures)
 
 returns : tie.Need-returns Inv-loop μ-loop
-unfolding maskBy event
-returns c =
-    stating-is _ _ _ _ (c .before .before .pre .2) (gather-end _ _ _ _ (c .before .loop .inv) (omega arith))
+returns c = pick-end _ capacity _ _ _ (c .before .loop .inv) (c .loop-test .left)
 
 pub right-row-spec : {M : Type 1} → statement M
 right-row-spec =
@@ -67,16 +59,13 @@ right-row-spec =
     (tie.spec
     Inv-loop
     μ-loop
-    mul-written
-    element-copy-out-written
     loop-holds
-    cast-has
-    has-requires
-    cast-one-if
-    mul-one-if
-    element-copy-out-one-if
-    one-if-requires
-    add-r
+    lowest-set-requires
+    one-requires
+    cast-mask-if
+    mul-mask-if
+    element-copy-out-mask-if
+    mask-if-requires
     loop-less
     loop-again
     returns)
