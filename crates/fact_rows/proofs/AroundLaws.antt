@@ -225,7 +225,8 @@ module _ (a : Around) where
   unfolding reads
   lrs-are reserving t k p =
       ap₂ bitAnd p (k .readers) ∙ sym (mask-both t (λ k. eqb (kind t k) lr || eqb (kind t k) sc) (reads t))
-      ∙ mask-same t (λ k. (eqb (kind t k) lr || eqb (kind t k) sc) && reads t k) (λ k. eqb (kind t k) lr) (λ k l. lr-reads (kind t k))
+      ∙ mask-same t (λ k. (eqb (kind t k) lr || eqb (kind t k) sc) && reads t k) (λ k. eqb (kind t k) lr)
+      (λ k l. lr-reads (kind t k))
 
   pub window-writer : (reserving lrs r : ℕ) → writingKind (a .event .kind) ≡ true → lrs ≡ bitAnd reserving (a .readers) →
       PairRow reserving lrs a r → WindowRow reserving a r
@@ -243,8 +244,8 @@ module _ (a : Around) where
       let w : writes t (a .number) ≡ true = sym (writes-is t k) ∙ h in
       sym (ground-unpaired t (room t k) (a .number) w (unpaired-by-window t (room t k) (a .number) w (sym q ∙ z)))
 
-  pub ground-writer : (window l u r : ℕ) → writingKind (a .event .kind) ≡ true → (window ≡ 0 → ⊥) → l ≡ trailingZeros 32 window →
-      u ≡ under l (a .hart) → r ≡ bitAnd (bitAnd (a .writers) (a .place)) u → GroundRow window a r
+  pub ground-writer : (window l u r : ℕ) → writingKind (a .event .kind) ≡ true → (window ≡ 0 → ⊥) →
+      l ≡ trailingZeros 32 window → u ≡ under l (a .hart) → r ≡ bitAnd (bitAnd (a .writers) (a .place)) u → GroundRow window a r
   ground-writer window l u r h z f i e t g k q =
       let w : writes t (a .number) ≡ true = sym (writes-is t k) ∙ h in
       let p = paired-by-window t (room t k) (a .number) w (λ o. z (q ∙ o)) l (f ∙ ap (trailingZeros 32) q) in

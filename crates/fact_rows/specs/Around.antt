@@ -46,7 +46,8 @@ PairRow reserving lrs a r =
 -- the window of any event, where the LRs and SCs are known
 abbrev pub WindowRow : ℕ → Around → ℕ → Type 0
 WindowRow reserving a r =
-    (t : Table) → Known t a → reserving ≡ maskBy t (λ k. eqb (kind t k) lr || eqb (kind t k) sc) → r ≡ maskBy t (opens t (a .number))
+    (t : Table) → Known t a → reserving ≡ maskBy t (λ k. eqb (kind t k) lr || eqb (kind t k) sc) →
+    r ≡ maskBy t (opens t (a .number))
 
 -- its ground, where the window is known
 abbrev pub GroundRow : ℕ → Around → ℕ → Type 0

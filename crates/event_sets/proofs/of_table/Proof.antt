@@ -32,7 +32,8 @@ record Sorting (t : Table) (k readers writers acquires releases rcscs reserving 
 -- sets with the same fields are the same
 sets-same : {r r′ w w′ a a′ l l′ s s′ o o′ : ℕ} {h h′ x x′ : List ℕ} →
     r ≡ r′ → w ≡ w′ → a ≡ a′ → l ≡ l′ → s ≡ s′ → o ≡ o′ → h ≡ h′ → x ≡ x′ →
-    _≡_ {A = Sets} (record { readers = r; writers = w; acquires = a; releases = l; rcscs = s; reserving = o; harts = h; locations = x })
+    _≡_ {A = Sets}
+    (record { readers = r; writers = w; acquires = a; releases = l; rcscs = s; reserving = o; harts = h; locations = x })
     (record { readers = r′; writers = w′; acquires = a′; releases = l′; rcscs = s′; reserving = o′; harts = h′; locations = x′ })
 sets-same p q d e f g i j = cc
 
@@ -61,22 +62,27 @@ loop-holds c =
 hart-fits : tie.Need-array-read-harts Inv-loop μ-loop
 unfolding hart event
 hart-fits c =
-    let d = c .before .before .before .before .before .before .before .before .before .before .before .before .before .before .before .before in
+    let e = c .before .before .before .before .before .before .before .before in
+    let d = e .before .before .before .before .before .before .before .before in
     d .before .before .pre .each-hart (d .before .loop .k) (d .loop-test .taken)
 
 location-fits : tie.Need-array-read-locations Inv-loop μ-loop
 unfolding location event
 location-fits c =
-    let d = c .before .before .before .before .before .before .before .before .before .before .before .before .before .before .before .before .before in
+    let e = c .before .before .before .before .before .before .before .before in
+    let d = e .before .before .before .before .before .before .before .before .before in
     d .before .before .pre .each-location (d .before .loop .k) (d .loop-test .taken)
 
 add-fits : tie.Need-add-k Inv-loop μ-loop
 add-fits c =
-    let d = c .before .before .before .before .before .before .before .before .before .before .before .before .before .before .before .before .before in
+    let e = c .before .before .before .before .before .before .before .before in
+    let d = e .before .before .before .before .before .before .before .before .before in
     record { fits = omega (arith, d .loop-test .taken, d .before .before .pre .events) }
 
 falls : tie.Need-loop-less Inv-loop μ-loop
-falls c = omega (arith, c .before .before .before .before .before .before .before .before .before .before .before .before .before .before .before .before .before .loop-test .taken)
+falls c =
+    let e = c .before .before .before .before .before .before .before .before in
+    omega (arith, e .before .before .before .before .before .before .before .before .before .loop-test .taken)
 
 loop-again : tie.Need-loop-again Inv-loop μ-loop
 unfolding ofEvents

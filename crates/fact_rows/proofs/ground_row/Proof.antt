@@ -7,12 +7,6 @@ use borrow.Author.Needs.{needs}
 use Rattle.fact_rows.proofs.ground_row.Statement.{statement}
 use Rattle.fact_rows.proofs.ground_row.Tie as tie
 
-writes-requires : tie.Need-writes-requires
-writes-requires c κs = search needs
-
-own-row-requires : tie.Need-own-row-requires
-own-row-requires c κs = search needs
-
 returns : tie.Need-returns
 returns c =
     ground-other _ _ _ (sym (c .before .before .writes .ensures) ∙ not-true _ (c .before .if1 .taken)) (c .own-row .ensures)
@@ -20,9 +14,6 @@ returns c =
 returns-2 : tie.Need-returns-2
 returns-2 c =
     ground-none _ _ (sym (c .before .before .writes .ensures) ∙ not-false _ (c .before .if1 .left)) (c .if2 .taken)
-
-lowest-set-requires : tie.Need-lowest-set-requires
-lowest-set-requires c κs = search needs
 
 under-requires : tie.Need-under-requires
 under-requires c κs =
@@ -39,10 +30,10 @@ pub ground-row-spec : {M : Type 1} → statement M
 ground-row-spec =
     tie.close
     (tie.spec
-    writes-requires
-    own-row-requires
+    (λ c κs. search needs)
+    (λ c κs. search needs)
     returns
     returns-2
-    lowest-set-requires
+    (λ c κs. search needs)
     under-requires
     returns-3)

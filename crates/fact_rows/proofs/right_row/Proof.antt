@@ -21,34 +21,23 @@ lowest c = pick-lowest _ _ _ _ _ _ (c .before .before .loop .inv) (omega arith) 
 loop-holds : tie.Need-loop-holds Inv-loop μ-loop
 loop-holds c = pick-start _ capacity _ (c .fits .readers .fits)
 
-lowest-set-requires : tie.Need-lowest-set-requires Inv-loop μ-loop
-lowest-set-requires c κs = search needs
-
 one-requires : tie.Need-one-requires Inv-loop μ-loop
 one-requires c κs = lowest c
-
-cast-mask-if : tie.Need-cast-mask-if Inv-loop μ-loop
-cast-mask-if c = search needs
-
-mul-mask-if : tie.Need-mul-mask-if Inv-loop μ-loop
-mul-mask-if c = search needs
 
 element-copy-out-mask-if : tie.Need-element-copy-out-mask-if Inv-loop μ-loop
 element-copy-out-mask-if c = lowest (c .before)
 
-mask-if-requires : tie.Need-mask-if-requires Inv-loop μ-loop
-mask-if-requires c κs = search needs
-
 loop-less : tie.Need-loop-less Inv-loop μ-loop
 loop-less c =
     let k = c .before .before .before in
-    pick-less _ _ _ _ _ _ (k .before .before .loop .inv) (omega arith) (k .lowest-set .ensures) _ (c .before .before .one .ensures)
+    pick-less _ _ _ _ _ _ (k .before .before .loop .inv) (omega arith) (k .lowest-set .ensures) _
+    (c .before .before .one .ensures)
 
 loop-again : tie.Need-loop-again Inv-loop μ-loop
 loop-again c =
     let k = c .before .before .before in
-    pick-more _ _ _ _ _ _ (k .before .before .loop .inv) (omega arith) (k .lowest-set .ensures) _ _ (c .before .before .one .ensures)
-    (c .mask-if .ensures)
+    pick-more _ _ _ _ _ _ (k .before .before .loop .inv) (omega arith) (k .lowest-set .ensures) _ _
+    (c .before .before .one .ensures) (c .mask-if .ensures)
 
 returns : tie.Need-returns Inv-loop μ-loop
 returns c = pick-end _ capacity _ _ _ (c .before .loop .inv) (c .loop-test .left)
@@ -60,12 +49,12 @@ right-row-spec =
     Inv-loop
     μ-loop
     loop-holds
-    lowest-set-requires
+    (λ c κs. search needs)
     one-requires
-    cast-mask-if
-    mul-mask-if
+    (λ c. search needs)
+    (λ c. search needs)
     element-copy-out-mask-if
-    mask-if-requires
+    (λ c κs. search needs)
     loop-less
     loop-again
     returns)
