@@ -18,7 +18,7 @@ ghost use lib.ListN.{getD};
 ghost use Rattle.edition.specs.Limits.{maxHarts, maxLocations};
 ghost use Rattle.table.specs.Events.{capacity};
 ghost use Rattle.table.specs.Counts.{Small};
-ghost use Rattle.event_sets.specs.Sets.{setOf};
+ghost use Rattle.event_sets.specs.Sets.{setOf, setsOf};
 ghost use Rattle.precedence.specs.Precedence.{predecessorMask, predecessorMasks};
 ghost use Rattle.precedence.specs.Passed.{OfEvent, AtEvent, precedes, beforeReads, beforeWrites, passedAt};
 
@@ -113,11 +113,10 @@ fn row(s: Sets, p: Passed, b: EventNo, y: Event) -> u32
 }
 
 // For each event the mask of its steady predecessors; none past the events.
-pub fn predecessors(t: Table) -> [u32; SLOTS]
-    requires { ⌜ Small t ⌝ }
+pub fn predecessors(t: Table, s: Sets) -> [u32; SLOTS]
+    requires { ⌜ Small t × (s ≡ setsOf t) ⌝ }
     ensures { λ r. ⌜ r ≡ predecessorMasks t ⌝ }
 {
-    let s = event_sets::of_table(t);
     let mut rows = [0u32; SLOTS];
     let mut p = Passed {
         memory: 0,

@@ -66,7 +66,8 @@ pub fn search(t: Table, start: &[u8], out: &mut [u8], allowance: u64) -> Reply
     ensures { λ r. ⌜ now (out .exit) ≡ bufferAfter (tableReply t (clean t) (statedOutcome t) (now (start .entry)) (now (out .entry)) allowance) (now (out .entry)) ⌝ }
     ensures { λ r. ⌜ lengthOf r ≡ prefixLength (tableReply t (clean t) (statedOutcome t) (now (start .entry)) (now (out .entry)) allowance) ⌝ }
 {
-    let pred = precedence::predecessors(t);
+    let sets = event_sets::of_table(t);
+    let pred = precedence::predecessors(t, sets);
     let mem = table::memory_mask(t);
     let succ = successors::successors(&pred, mem);
     let mut order = [0u8; SLOTS];

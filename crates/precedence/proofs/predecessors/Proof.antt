@@ -12,10 +12,10 @@ use Rattle.precedence.proofs.predecessors.Statement.{statement}
 use Rattle.precedence.proofs.predecessors.Tie as tie
 
 abbrev Inv-loop : tie.InvT-loop
-Inv-loop t s rows₀ p₀ b₀ rows p b = Padded (predecessorMask t) slots (t .count) b rows × (p ≡ passedAt t b)
+Inv-loop s t rows₀ p₀ b₀ rows p b = Padded (predecessorMask t) slots (t .count) b rows × (p ≡ passedAt t b)
 
 abbrev μ-loop : tie.MeasureT-loop
-μ-loop t s rows₀ p₀ b₀ rows p b = t .count - b
+μ-loop s t rows₀ p₀ b₀ rows p b = t .count - b
 
 loop-holds : tie.Need-loop-holds Inv-loop μ-loop
 loop-holds c = (pad-start _ _ _, none-passed _)
@@ -24,7 +24,7 @@ row-requires : tie.Need-row-requires Inv-loop μ-loop
 unfolding hart location event
 row-requires c κs =
     let d = c .before in
-    let small = d .before .before .before .pre in
+    let small = d .before .before .pre .0 in
     let b = d .before .loop .b in
     (omega (arith, small .events), small .each-hart b (d .loop-test .taken), small .each-location b (d .loop-test .taken))
 
@@ -32,7 +32,7 @@ pass-requires : tie.Need-pass-requires Inv-loop μ-loop
 unfolding hart event
 pass-requires c κs =
     let d = c .before .before in
-    let small = d .before .before .before .pre in
+    let small = d .before .before .pre .0 in
     (omega (arith, small .events), small .each-hart (d .before .loop .b) (d .loop-test .taken))
 
 loop-again : tie.Need-loop-again Inv-loop μ-loop
@@ -40,9 +40,10 @@ unfolding event
 loop-again c =
     let d = c .before .before .before in
     let v = d .before .loop in
-    let t = d .before .before .before .args .t1 in
-    let sets = d .before .before .of-table .ensures in (
-      pad-more _ _ _ _ _ _ (omega (arith, d .before .before .before .pre .events)) (v .inv .0) (d .loop-test .taken)
+    let start = d .before .before in
+    let t = start .args .t1 in
+    let sets = start .pre .1 in (
+      pad-more _ _ _ _ _ _ (omega (arith, start .pre .0 .events)) (v .inv .0) (d .loop-test .taken)
           (c .before .row .ensures t (d .loop-test .taken) sets (v .inv .1) refl),
       c .pass .ensures t (d .loop-test .taken) sets (v .inv .1) refl,
     )
@@ -57,7 +58,6 @@ predecessors-spec =
     (tie.spec
     Inv-loop
     μ-loop
-    (λ c κs. search needs)
     loop-holds
     (λ c. search needs)
     (λ c. search needs)
