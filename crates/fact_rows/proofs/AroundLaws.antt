@@ -3,21 +3,20 @@ use Prim.Native.Nat.{ℕ, suc, _+_, _^_, _≤_, _<_}
 use native.Mathlib.Numerals.{add-one}
 use native.Mathlib.Omega.{arith}
 use mathlib.Core.Path.{_≡_, refl, sym, ap, ap₂, _∙_}
-use mathlib.Core.Bool.{Bool, true, false, cond, _&&_, _||_, and-true, and-false, or-false, true≢false}
+use mathlib.Core.Bool.{Bool, true, false, cond, _&&_, _||_, true≢false}
 use lib.Bits.{bitAnd, bitOr, bitXor, or-zero-r}
-use borrow.Author.Tests.{eq-eqb, ne-eqb, eqb-true, eqb-false, lt-ltb, le-ltb, ltb-true}
+use borrow.Author.Tests.{eq-eqb, ne-eqb, eqb-true, lt-ltb}
 use lib.Count.{trailingZeros}
-use lib.Dec.{eqb, ltb}
-use Rattle.lists.proofs.BoolLaws.{bool-ext}
+use lib.Dec.{eqb}
 use Rattle.masks.specs.Bit.{bit}
-use Rattle.masks.proofs.BitLaws.{bit-and, bit-or, bit-pow}
-use Rattle.masks.proofs.PowerLaws.{bits-same, trailing-lowest, and-pow, and-pow-set}
+use Rattle.masks.specs.Parts.{from, under, highest}
+use Rattle.masks.proofs.PowerLaws.{and-pow, and-pow-set}
+use Rattle.masks.proofs.PartLaws.{up-to}
 use Rattle.table.specs.declared.Event.{Event}
 use Rattle.table.specs.declared.Table.{Table}
 use Rattle.table.specs.Events.{capacity, store, lr, sc, readingKind, writingKind, event, kind, reads, writes}
-use Rattle.placing.specs.GoodTable.{GoodTable}
 use Rattle.order_facts.specs.Facts.{maskBy, opens, ownWriter, needed, here, peers}
-use Rattle.order_facts.proofs.RowLaws.{from, under, bit-under, bits-of, mask-same, mask-both}
+use Rattle.order_facts.proofs.RowLaws.{bits-of, mask-same, mask-both}
 use Rattle.order_facts.proofs.RowLaws.{hartOf, own-row, here-row, peer-row, needs-row, guard-row}
 use Rattle.order_facts.proofs.WindowRowLaws.{rereader, overwriter, rereaders-set, overwriters-set}
 use Rattle.order_facts.proofs.WindowRowLaws.{window-none, window-all, window-first}
@@ -25,25 +24,8 @@ use Rattle.order_facts.proofs.WindowRowLaws.{window-pair, window-unpaired, pair
 use Rattle.order_facts.proofs.WindowRowLaws.{ground-own, ground-unpaired, ground-set}
 use Rattle.order_facts.proofs.PairRowLaws.{reserver, reservers-set, unpaired-other, unpaired-none}
 use Rattle.order_facts.proofs.PairRowLaws.{nearest-event, nearest-paired, nearest-unpaired}
-use Rattle.order_facts.specs.Highest.{highest}
 use Rattle.fact_rows.specs.declared.Around.{Around}
 use Rattle.fact_rows.specs.Around.{Known, Row, GuardRow, RereadRow, PairRow, WindowRow, GroundRow}
-
--- a mask's bits up to bit s
-up-to : (s m : ℕ) → bitOr (under s m) (bitAnd m (2 ^ s)) ≡ under (suc s) m
-up-to s m = bits-same _ _ (λ k.
-    bit-or (under s m) (bitAnd m (2 ^ s)) k
-    ∙ ap₂ (λ (x y : Bool). x || y) (bit-under s m k) (bit-and m (2 ^ s) k ∙ ap (λ (x : Bool). bit m k && x) (bit-pow s k))
-    ∙ go k (eqb s k) refl ∙ sym (bit-under (suc s) m k))
-  where
-    go : (k : ℕ) (b : Bool) → eqb s k ≡ b → (ltb k s && bit m k || bit m k && b) ≡ (ltb k (suc s) && bit m k)
-    go k true q =
-        let e : s ≡ k = eqb-true s k q in
-        rw (le-ltb k s (omega arith), lt-ltb k (suc s) (omega arith)) (and-true (bit m k))
-    go k false q =
-        rw (and-false (bit m k), or-false (ltb k s && bit m k)) (ap (λ (x : Bool). x && bit m k)
-        (bool-ext (ltb k s) (ltb k (suc s)) (λ h. lt-ltb k (suc s) (omega (arith, ltb-true k s h)))
-        (λ h. lt-ltb k s (omega (arith, ltb-true k (suc s) h, eqb-false s k q)))))
 
 -- of the LRs and SCs the LRs read
 lr-reads : (x : ℕ) → ((eqb x lr || eqb x sc) && readingKind x) ≡ eqb x lr
@@ -53,10 +35,6 @@ lr-reads x = go (eqb x lr) (eqb x sc) refl refl
     go true c h i = ap readingKind (eqb-true x lr h)
     go false true h i = ap readingKind (eqb-true x sc i)
     go false false h i = refl
-
--- the lowest bit of a mask of 32
-pub lowest-room : (m : ℕ) → (m ≡ 0 → ⊥) → m < 2 ^ 32 → trailingZeros 32 m < 32
-lowest-room m z l = trailing-lowest 32 m (omega (arith, z)) l .0
 
 module _ (a : Around) where
   reads-is : (t : Table) → Known t a → readingKind (a .event .kind) ≡ reads t (a .number)

@@ -1,2 +1,1 @@
 pub mod AroundLaws
-pub mod PickLaws

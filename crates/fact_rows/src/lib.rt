@@ -1,15 +1,16 @@
 // The rows of a table's facts (crate `order_facts`), each from sets of events.
+use masks::from;
+use masks::highest_set;
+use masks::less;
 use masks::lowest_set;
 use masks::mask_if;
 use masks::one;
+use masks::under;
 use table::CAPACITY;
 use table::Event;
 use table::Kind;
-ghost use Prim.Native.Nat.{suc, _/_, _*_, _^_, _<_};
-ghost use mathlib.Core.Path.{_≡_};
-ghost use lib.Bits.{bitAnd, bitXor};
+ghost use Prim.Native.Nat.{suc, _<_};
 ghost use Rattle.table.specs.Events.{capacity};
-ghost use Rattle.order_facts.specs.Highest.{highest};
 ghost use Rattle.order_facts.specs.Facts.{ownWriter, needed, here, peers};
 ghost use Rattle.fact_rows.specs.Around.{Row, GuardRow, RereadRow, PairRow, WindowRow, GroundRow, Stating};
 
@@ -50,40 +51,6 @@ pub struct Around {
     pub writers: u32,
     pub place: u32,
     pub hart: u32,
-}
-
-// The bits of `m` from bit `e` on.
-fn from(m: u32, e: u32) -> u32
-    requires { ⌜ e < capacity ⌝ }
-    ensures { λ r. ⌜ r ≡ m / 2 ^ e * 2 ^ e ⌝ }
-{
-    (m >> e) << e
-}
-
-// The bits of `m` below bit `e`.
-fn under(m: u32, e: u32) -> u32
-    requires { ⌜ e < capacity ⌝ }
-    ensures { λ r. ⌜ r ≡ bitXor m (m / 2 ^ e * 2 ^ e) ⌝ }
-{
-    m ^ from(m, e)
-}
-
-// What is in `a` and not in `b`.
-pub fn less(a: u32, b: u32) -> u32
-    ensures { λ r. ⌜ r ≡ bitXor a (bitAnd a b) ⌝ }
-{
-    a ^ (a & b)
-}
-
-// The highest bit of a mask.
-const TOP_BIT: u32 = 31;
-
-// The highest bit that is set in `m`.
-pub fn highest_set(m: u32) -> u32
-    requires { ⌜ 0 < m ⌝ }
-    ensures { λ r. ⌜ r ≡ highest m ⌝ }
-{
-    TOP_BIT - u32::leading_zeros(m)
 }
 
 // Of a reader the writers at its location that are earlier on its hart.

@@ -2,7 +2,7 @@
 use Prim.Native.Nat.{ℕ, _≤_, _<_}
 use native.Mathlib.Omega.{arith}
 use mathlib.Core.Path.{_≡_, refl, sym, ap, ap₂, subst, _∙_}
-use mathlib.Core.Bool.{Bool, true, false, not, _&&_, _||_}
+use mathlib.Core.Bool.{Bool, true, false, not, _&&_}
 use mathlib.Core.List.{List}
 use lib.Bits.{bitAnd}
 use lib.Dec.{eqb, ltb}
@@ -14,13 +14,13 @@ use Rattle.lists.proofs.BoolLaws.{eqb-comm}
 use Rattle.lists.proofs.PaddedLaws.{padded-at}
 use Rattle.masks.specs.Bit.{bit}
 use Rattle.masks.specs.MaskOf.{maskOf}
+use Rattle.masks.proofs.BelowLaws.{mask-some}
 use Rattle.edition.specs.Limits.{maxLocations}
 use Rattle.table.specs.declared.Table.{Table}
 use Rattle.table.specs.Events.{capacity, event, hart, location, writes, sameLocation}
 use Rattle.model.specs.Returns.{initialValue}
 use Rattle.placing.specs.GoodTable.{GoodTable}
 use Rattle.order_facts.specs.Facts.{maskBy, opens, grounds, guards, here, right, unmet}
-use Rattle.order_facts.proofs.MaskLaws.{mask-some}
 use Rattle.order_facts.proofs.RowLaws.{bits-of, mask-same, mask-both, right-row}
 use Rattle.fact_rows.specs.declared.Around.{Around}
 use Rattle.fact_rows.specs.Around.{Known, Row, GuardRow, WindowRow, GroundRow, Stating}

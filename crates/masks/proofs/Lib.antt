@@ -6,4 +6,8 @@ pub mod UnionLaws
 pub mod WithinLaws
 pub mod GatherLaws
 pub mod SetLaws
+pub mod PartLaws
+pub mod BelowLaws
+pub mod HighestLaws
+pub mod PickLaws
 pub mod SortLaws

@@ -3,9 +3,10 @@ ghost use Prim.Native.Nat.{_<_, _^_};
 ghost use mathlib.Core.Path.{_≡_};
 ghost use mathlib.Core.Bool.{cond};
 ghost use lib.Dec.{eqb};
-ghost use lib.Bits.{bitAnd};
+ghost use lib.Bits.{bitAnd, bitXor};
 ghost use lib.Count.{trailingZeros};
 ghost use Rattle.masks.specs.Bit.{bit};
+ghost use Rattle.masks.specs.Parts.{from, under, highest};
 
 // The mask of bit `e` alone.
 pub fn one(e: u32) -> u32
@@ -43,6 +44,40 @@ pub fn lowest_set(m: u32) -> u32
     ensures { λ r. ⌜ r ≡ trailingZeros 32 m ⌝ }
 {
     u32::trailing_zeros(m)
+}
+
+// The highest bit of a mask.
+const TOP_BIT: u32 = 31;
+
+// The highest bit that is set in `m`.
+pub fn highest_set(m: u32) -> u32
+    requires { ⌜ 0 < m ⌝ }
+    ensures { λ r. ⌜ r ≡ highest m ⌝ }
+{
+    TOP_BIT - u32::leading_zeros(m)
+}
+
+// The bits of `m` from bit `e` on.
+pub fn from(m: u32, e: u32) -> u32
+    requires { ⌜ e < 32 ⌝ }
+    ensures { λ r. ⌜ r ≡ from e m ⌝ }
+{
+    (m >> e) << e
+}
+
+// The bits of `m` below bit `e`.
+pub fn under(m: u32, e: u32) -> u32
+    requires { ⌜ e < 32 ⌝ }
+    ensures { λ r. ⌜ r ≡ under e m ⌝ }
+{
+    m ^ from(m, e)
+}
+
+// What is in `a` and not in `b`.
+pub fn less(a: u32, b: u32) -> u32
+    ensures { λ r. ⌜ r ≡ bitXor a (bitAnd a b) ⌝ }
+{
+    a ^ (a & b)
 }
 
 // Every bit of `a` is in `b`.

@@ -14,7 +14,7 @@ use Rattle.table.specs.Counts.{Small}
 use Rattle.model.specs.Returns.{finalValue}
 use Rattle.placing.proofs.EntryLaws.{value-more}
 use Rattle.order_facts.specs.Facts.{maskBy, here, right, good}
-use Rattle.order_facts.proofs.MaskLaws.{bit-less}
+use Rattle.masks.proofs.SetLaws.{bit-without}
 
 -- the choice of two values that is x
 choice-is : (c : Bool) (v f x : ℕ) → eqb (cond c v f) x ≡ cond c (eqb v x) (eqb f x)
@@ -59,7 +59,7 @@ good-more t small p e l = bits-same _ _ (λ k.
     mask-below (good t (finalValue t (p ++ (e ∷ [])))) (t .count) k ∙ step k
     ∙ sym (bit-or (bitXor old (bitAnd old (maskBy t (here t e)))) (maskBy t (right t e)) k
     ∙ ap₂ (λ (a b : Bool). a || b)
-    (bit-less old (maskBy t (here t e)) k
+    (bit-without old (maskBy t (here t e)) k
     ∙ ap₂ (λ (a b : Bool). a && not b) (mask-below (good t (finalValue t p)) (t .count) k) (mask-below (here t e) (t .count) k))
     (mask-below (right t e) (t .count) k)))
   where

@@ -1,4 +1,3 @@
-pub mod MaskLaws
 pub mod ReadLaws
 pub mod WriteLaws
 pub mod GoodLaws

@@ -10,16 +10,16 @@ use borrow.Author.Tests.{lt-ltb, ltb-true, ltb-false, not-true}
 use Rattle.lists.proofs.BoolLaws.{and-l, and-r, and-both, not-either, is-false}
 use Rattle.lists.proofs.SomeLaws.{some-none, none-at}
 use Rattle.masks.specs.Bit.{bit}
+use Rattle.masks.specs.Parts.{under, highest}
 use Rattle.masks.proofs.BitLaws.{bit-zero}
 use Rattle.masks.proofs.MaskOfLaws.{mask-below-lt}
+use Rattle.masks.proofs.HighestLaws.{highest-set}
 use Rattle.table.specs.declared.Table.{Table}
 use Rattle.table.specs.Events.{capacity, kind, po, between, reserves, paired, lr, sc}
 use Rattle.table.proofs.ProgramOrderLaws.{po-less, po-hart, is-po}
 use Rattle.placing.proofs.GoodTableLaws.{paired-parts}
-use Rattle.order_facts.specs.Highest.{highest}
 use Rattle.order_facts.specs.Facts.{maskBy}
-use Rattle.order_facts.proofs.MaskLaws.{highest-set}
-use Rattle.order_facts.proofs.RowLaws.{under, bits-of, mask-both, hartOf, earlier-set}
+use Rattle.order_facts.proofs.RowLaws.{bits-of, mask-both, hartOf, earlier-set}
 
 -- an LR or SC
 abbrev pub reserving : Table → ℕ → Bool

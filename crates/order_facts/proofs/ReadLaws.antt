@@ -17,9 +17,10 @@ use Rattle.table.specs.declared.Table.{Table}
 use Rattle.table.specs.Events.{capacity, event, kind, location, reads, store}
 use Rattle.placing.specs.Guards.{own, depends, within, forwarder, mayForward, mayRead, valueNow, readsStated}
 use Rattle.placing.proofs.GuardLaws.{within-at, at-within, forwards, own-parts}
-use Rattle.order_facts.specs.Highest.{highest}
+use Rattle.masks.specs.Parts.{highest}
 use Rattle.order_facts.specs.Facts.{maskBy, ownWriter, needed, here, right, good}
-use Rattle.order_facts.proofs.MaskLaws.{mask-within, mask-at, mask-less, mask-none-last, mask-last}
+use Rattle.masks.proofs.BelowLaws.{mask-within, mask-at, mask-less}
+use Rattle.masks.proofs.HighestLaws.{mask-none-last, mask-last}
 
 -- every event that passes is placed
 pub within-mask : (t : Table) (placed : ℕ) (f : ℕ → Bool) → within t (bit placed) f ≡ eqb (bitAnd (maskBy t f) placed) (maskBy t f)

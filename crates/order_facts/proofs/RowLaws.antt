@@ -1,50 +1,25 @@
 -- Each row by sets of events: readers, writers, those of a location, those of a hart that are earlier or later.
-use Prim.Native.Nat.{ℕ, suc, _*_, _/_, _^_, _<_}
+use Prim.Native.Nat.{ℕ, suc, _^_, _<_}
 use mathlib.Core.Path.{_≡_, refl, sym, ap, ap₂, _∙_}
-use mathlib.Core.Bool.{Bool, true, false, cond, not, _&&_, _||_, xor, and-assoc, and-false}
+use mathlib.Core.Bool.{Bool, true, false, cond, not, _&&_, _||_, and-assoc, and-false}
 use lib.Bits.{bitAnd, bitOr, bitXor}
-use lib.Dec.{eqb, ltb, leb}
-use borrow.Author.Tests.{lt-ltb, ltb-true, ltb-false, eqb-true, le-leb, lt-leb}
+use lib.Dec.{eqb, ltb}
+use borrow.Author.Tests.{lt-ltb, ltb-true, eqb-true}
 use Rattle.lists.specs.Below.{some}
 use Rattle.lists.proofs.BoolLaws.{eqb-comm}
 use Rattle.masks.specs.Bit.{bit}
-use Rattle.masks.proofs.BitLaws.{bit-and, bit-or, bit-xor, bit-pow}
+use Rattle.masks.specs.Parts.{from, under}
+use Rattle.masks.proofs.BitLaws.{bit-and, bit-or, bit-pow}
 use Rattle.masks.proofs.PowerLaws.{bits-same, bit-high}
 use Rattle.masks.proofs.MaskOfLaws.{mask-below}
 use Rattle.masks.proofs.GatherLaws.{mask-none}
+use Rattle.masks.proofs.SetLaws.{bit-without}
+use Rattle.masks.proofs.PartLaws.{bit-under}
 use Rattle.table.specs.declared.Table.{Table}
 use Rattle.table.specs.Events.{event, kind, hart, location, reads, writes, sameLocation, po, store}
 use Rattle.table.specs.Annotations.{addressDepends, dataDepends}
 use Rattle.placing.specs.Guards.{own, depends}
 use Rattle.order_facts.specs.Facts.{maskBy, ownWriter, needed, opens, guards, here, right, peers}
-use Rattle.order_facts.proofs.MaskLaws.{bit-less}
-
--- a mask's bits from n on, and those below n
-abbrev pub from : ℕ → ℕ → ℕ
-from n m = m / 2 ^ n * 2 ^ n
-
-abbrev pub under : ℕ → ℕ → ℕ
-under n m = bitXor m (from n m)
-
--- k is below n or not
-pub below-or : (n k : ℕ) → not (leb n k) ≡ ltb k n
-below-or n k = go (ltb k n) refl
-  where
-    go : (b : Bool) → ltb k n ≡ b → not (leb n k) ≡ b
-    go true h = ap not (lt-leb n k (ltb-true k n h))
-    go false h = ap not (le-leb n k (ltb-false k n h))
-
-xor-not : (s b : Bool) → xor s (b && s) ≡ (not b && s)
-unfolding xor
-xor-not true true = refl
-xor-not true false = refl
-xor-not false true = refl
-xor-not false false = refl
-
-pub bit-under : (n m k : ℕ) → bit (under n m) k ≡ (ltb k n && bit m k)
-bit-under n m k =
-    bit-xor m (from n m) k ∙ ap (xor (bit m k)) (bit-high m n k) ∙ xor-not (bit m k) (leb n k)
-    ∙ ap (λ (b : Bool). b && bit m k) (below-or n k)
 
 -- a test of three at once
 and-spread : (n a b : Bool) → (n && (a && b)) ≡ ((n && a) && (n && b))
@@ -155,7 +130,7 @@ module _ (t : Table) where
       maskBy t (λ k. f k && not (g k)) ≡ bitXor (maskBy t f) (bitAnd (maskBy t f) (maskBy t g))
   mask-but f g = bits-same _ _ (λ k.
       bits-of (λ k. f k && not (g k)) k ∙ spread (ltb k n) (f k) (g k)
-      ∙ ap₂ (λ (a b : Bool). a && not b) (sym (bits-of f k)) (sym (bits-of g k)) ∙ sym (bit-less (maskBy t f) (maskBy t g) k))
+      ∙ ap₂ (λ (a b : Bool). a && not b) (sym (bits-of f k)) (sym (bits-of g k)) ∙ sym (bit-without (maskBy t f) (maskBy t g) k))
     where
       spread : (a b c : Bool) → (a && (b && not c)) ≡ ((a && b) && not (a && c))
       spread true b c = refl

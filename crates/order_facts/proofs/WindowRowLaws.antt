@@ -11,10 +11,12 @@ use Rattle.lists.specs.Below.{some}
 use Rattle.lists.proofs.BoolLaws.{and-l, and-r, bool-ext, not-either, is-false, is-true, eqb-comm}
 use Rattle.lists.proofs.SomeLaws.{some-at, some-found, some-none}
 use Rattle.masks.specs.Bit.{bit}
+use Rattle.masks.specs.Parts.{from, under}
 use Rattle.masks.proofs.BitLaws.{bit-zero}
 use Rattle.masks.proofs.PowerLaws.{bits-same, trailing-lowest}
 use Rattle.masks.proofs.MaskOfLaws.{mask-below-lt}
 use Rattle.masks.proofs.GatherLaws.{mask-none}
+use Rattle.masks.proofs.PartLaws.{below-or, bit-under}
 use Rattle.table.specs.declared.Table.{Table}
 use Rattle.table.specs.Events.{capacity, lr, readingKind, kind, hart, location, reads, writes, sameLocation, po, between, paired}
 use Rattle.table.proofs.ProgramOrderLaws.{po-less, po-hart, is-po}
@@ -22,7 +24,7 @@ use Rattle.placing.specs.Guards.{rereads}
 use Rattle.placing.proofs.GoodTableLaws.{paired-once, paired-parts}
 use Rattle.order_facts.specs.Facts.{maskBy, ownWriter, opens, grounds}
 use Rattle.order_facts.proofs.WriteLaws.{pair-writes}
-use Rattle.order_facts.proofs.RowLaws.{from, under, below-or, bit-under, bits-of, mask-same, mask-both, mask-one}
+use Rattle.order_facts.proofs.RowLaws.{bits-of, mask-same, mask-both, mask-one}
 use Rattle.order_facts.proofs.RowLaws.{hartOf, placeOf, later-set, own-row}
 
 -- the tests of a window in the order of the sets

@@ -18,7 +18,7 @@ use Rattle.placing.specs.GoodTable.{GoodTable}
 use Rattle.placing.proofs.GuardLaws.{within-at, at-within, open-read, is-open-read, open-pair, is-open-pair}
 use Rattle.placing.proofs.GoodTableLaws.{paired-parts, paired-once}
 use Rattle.order_facts.specs.Facts.{maskBy, ownWriter, opens, grounds, isOpen, guards}
-use Rattle.order_facts.proofs.MaskLaws.{mask-meets}
+use Rattle.masks.proofs.BelowLaws.{mask-meets}
 use Rattle.order_facts.proofs.ReadLaws.{within-mask}
 
 -- an SC writes

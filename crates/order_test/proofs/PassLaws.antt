@@ -30,7 +30,7 @@ use Rattle.placing.specs.Entries.{among, lawfulAt, statedAt}
 use Rattle.placing.proofs.EntryLaws.{lawful-entries, witness-entries}
 use Rattle.placing.proofs.KeptLaws.{clean-kept}
 use Rattle.order_facts.specs.Facts.{maskBy, here, right, good, mayEnd, unmet}
-use Rattle.order_facts.proofs.MaskLaws.{mask-at}
+use Rattle.masks.proofs.BelowLaws.{mask-at}
 use Rattle.order_facts.proofs.GoodLaws.{good-more}
 use Rattle.order_facts.proofs.FinalLaws.{final-entries}
 use Rattle.fact_rows.specs.FactRows.{mask, Facts, goodWord, hereRow, rightRow, setRow, unmetWord}

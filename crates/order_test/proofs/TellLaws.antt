@@ -13,13 +13,14 @@ use Rattle.lists.proofs.SomeLaws.{some-at, some-found}
 use Rattle.lists.proofs.BoolLaws.{and-l, and-r, and-taken, and-left, and-right, bool-ext}
 use Rattle.lists.proofs.PaddedLaws.{padded-at}
 use Rattle.masks.specs.Bit.{bit}
+use Rattle.masks.specs.Parts.{highest}
 use Rattle.masks.proofs.MaskOfLaws.{mask-below}
+use Rattle.masks.proofs.SetLaws.{bit-without}
+use Rattle.masks.proofs.BelowLaws.{mask-at}
 use Rattle.table.specs.declared.Table.{Table}
 use Rattle.table.specs.Events.{capacity, reads, writes}
 use Rattle.placing.specs.Guards.{mayRead, mayWrite, mayPlace, readsStated}
-use Rattle.order_facts.specs.Highest.{highest}
 use Rattle.order_facts.specs.Facts.{maskBy, ownWriter, needed, opens, grounds, isOpen, guards, right, good, peers, ends, mayEnd}
-use Rattle.order_facts.proofs.MaskLaws.{bit-less, mask-at}
 use Rattle.order_facts.proofs.ReadLaws.{within-mask, read-none, stated-none, w-counted, read-some, stated-some}
 use Rattle.order_facts.proofs.WriteLaws.{bars, write-bars, open-mask}
 use Rattle.fact_rows.specs.FactRows.{row, mask, masksBy, Facts, ownRow, needsRow, windowRow, groundRow, guardRow, rightRow}
@@ -109,7 +110,7 @@ module _ (facts : List (List ℕ)) (placed e : ℕ) where
       same : (v : ℕ) → v < t .count → barring v ≡ bars (f .table) (bit placed) e v
       same v i =
           ap₂ (λ (a b : Bool). a && b)
-          (bit-less (mask facts guardRow e) placed v
+          (bit-without (mask facts guardRow e) placed v
           ∙ ap (λ (b : Bool). b && not (bit placed v))
           (ap (λ (x : ℕ). bit x v) (mask-is f guardRow (guards t) (f .guards) e l) ∙ mask-bit t (guards t e) v i))
           (tell-open v t f i)
@@ -118,7 +119,7 @@ module _ (facts : List (List ℕ)) (placed e : ℕ) where
       counted v h =
           ltb-true v (t .count) (and-l _ (guards t e v)
           (sym (ap (λ (x : ℕ). bit x v) (mask-is f guardRow (guards t) (f .guards) e l) ∙ mask-below (guards t e) (t .count) v)
-          ∙ and-l _ (not (bit placed v)) (sym (bit-less (mask facts guardRow e) placed v) ∙ and-l _ (openBy facts placed v) h)))
+          ∙ and-l _ (not (bit placed v)) (sym (bit-without (mask facts guardRow e) placed v) ∙ and-l _ (openBy facts placed v) h)))
 
       there : some capacity barring ≡ true → some (t .count) (bars (f .table) (bit placed) e) ≡ true
       there h =

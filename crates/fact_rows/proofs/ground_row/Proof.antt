@@ -2,7 +2,8 @@ use Prim.Native.Nat.{ℕ, _<_}
 use mathlib.Core.Path.{refl, sym, subst, _∙_}
 use borrow.Author.Tests.{not-true, not-false}
 use Rattle.table.specs.Events.{capacity}
-use Rattle.fact_rows.proofs.AroundLaws.{lowest-room, ground-other, ground-none, ground-writer}
+use Rattle.masks.proofs.PartLaws.{lowest-room}
+use Rattle.fact_rows.proofs.AroundLaws.{ground-other, ground-none, ground-writer}
 use borrow.Author.Needs.{needs}
 use Rattle.fact_rows.proofs.ground_row.Statement.{statement}
 use Rattle.fact_rows.proofs.ground_row.Tie as tie

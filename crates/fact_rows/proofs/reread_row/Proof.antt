@@ -4,7 +4,8 @@ use mathlib.Core.Path.{refl, sym, subst, _∙_}
 use lib.Bits.{bitAnd, and-le-r}
 use borrow.Author.Tests.{not-true, not-false}
 use Rattle.table.specs.Events.{capacity}
-use Rattle.fact_rows.proofs.AroundLaws.{lowest-room, reread-none, reread-all, reread-first}
+use Rattle.masks.proofs.PartLaws.{lowest-room}
+use Rattle.fact_rows.proofs.AroundLaws.{reread-none, reread-all, reread-first}
 use borrow.Author.Needs.{needs}
 use Rattle.fact_rows.proofs.reread_row.Statement.{statement}
 use Rattle.fact_rows.proofs.reread_row.Tie as tie

@@ -3,7 +3,7 @@ use native.Mathlib.Omega.{arith}
 use lib.Dec.{eqb}
 use lib.ListN.{getD}
 use Rattle.table.specs.Events.{capacity}
-use Rattle.fact_rows.proofs.PickLaws.{Picked, pick-start, pick-lowest, pick-less, pick-more, pick-end}
+use Rattle.masks.proofs.PickLaws.{Picked, pick-start, pick-lowest, pick-less, pick-more, pick-end}
 use borrow.Author.Needs.{needs}
 use Rattle.fact_rows.proofs.right_row.Statement.{statement}
 use Rattle.fact_rows.proofs.right_row.Tie as tie

@@ -1,5 +1,4 @@
-use Prim.Native.Nat.{ℕ, _-_, _<_}
-use mathlib.Core.Path.{sym, ap, _∙_}
+use Prim.Native.Nat.{_-_, _<_}
 use native.Mathlib.Omega.{arith}
 use Rattle.masks.proofs.GatherLaws.{Gathered, gather-start, gather-more, gather-end}
 use Rattle.edition.specs.Limits.{maxLocations}

@@ -1,8 +1,8 @@
 use mathlib.Core.Path.{ap}
 use lib.Bits.{bitXor}
 use borrow.Author.Needs.{needs}
-use Rattle.fact_rows.proofs.under.Statement.{statement}
-use Rattle.fact_rows.proofs.under.Tie as tie
+use Rattle.masks.proofs.under.Statement.{statement}
+use Rattle.masks.proofs.under.Tie as tie
 
 from-requires : tie.Need-from-requires
 from-requires c κs = search needs

@@ -1,8 +1,8 @@
 use native.Mathlib.Omega.{arith}
-use Rattle.order_facts.proofs.MaskLaws.{highest-set}
+use Rattle.masks.proofs.HighestLaws.{highest-set}
 use borrow.Author.Needs.{needs}
-use Rattle.fact_rows.proofs.highest_set.Statement.{statement}
-use Rattle.fact_rows.proofs.highest_set.Tie as tie
+use Rattle.masks.proofs.highest_set.Statement.{statement}
+use Rattle.masks.proofs.highest_set.Tie as tie
 
 sub-result : tie.Need-sub-result
 sub-result c = omega (arith, highest-set (c .args .m) (c .pre) (c .fits .m .fits) .0)

@@ -1,39 +1,25 @@
--- Masks of the numbers below n that pass: within another mask, meeting it, less it, and the highest of them.
-use Prim.Native.Nat.{ℕ, suc, _-_, _^_, _/_, _%_, _≤_, _<_}
+-- The highest bit of a mask, and of the numbers below n the last that passes.
+use Prim.Native.Nat.{ℕ, suc, _^_, _/_, _%_, _≤_, _<_}
 use native.Mathlib.Omega.{arith}
 use native.Mathlib.Nat.{lt-of-le-of-lt, le-antisymm, le-div-iff-mul-le, div-lt-iff-lt-mul}
 use mathlib.Core.Path.{_≡_, refl, sym, ap, _∙_}
-use mathlib.Core.Bool.{Bool, true, false, not, _&&_, _||_, xor, and-assoc}
+use mathlib.Core.Bool.{Bool, true, false, _&&_}
 use mathlib.Core.Logic.{⊎-elim}
-use lib.Bits.{bitAnd, bitXor, and-le-l}
 use lib.Count.{leadingZeros, leading-top}
 use lib.Pow.{pow-pos}
-use lib.Dec.{eqb, ltb}
-use borrow.Author.Tests.{lt-ltb, ltb-true, ltb-false, eq-eqb}
-use Rattle.lists.specs.Below.{below, some, every}
+use lib.Dec.{ltb}
+use borrow.Author.Tests.{ltb-true, ltb-false, eq-eqb}
+use Rattle.lists.specs.Below.{below}
 use Rattle.lists.specs.Lists.{has, keep, lastOr}
 use Rattle.lists.proofs.BoolLaws.{and-l, and-r, not-either}
-use Rattle.lists.proofs.SomeLaws.{some-same}
 use Rattle.lists.proofs.MemberLaws.{has-below}
 use Rattle.lists.proofs.LatestLaws.{last-either, last-highest}
-use Rattle.lists.proofs.TakeLaws.{kept-every}
 use Rattle.masks.specs.Bit.{bit}
 use Rattle.masks.specs.MaskOf.{maskOf}
-use Rattle.masks.proofs.BitLaws.{bit-and, bit-xor, bit-past, bit-zero}
-use Rattle.masks.proofs.SubsetLaws.{none-set}
-use Rattle.masks.proofs.PowerLaws.{bits-same}
-use Rattle.masks.proofs.MaskOfLaws.{mask-below, mask-below-lt, mask-subset}
-use Rattle.order_facts.specs.Highest.{highest}
-
-xor-less : (s t : Bool) → xor s (s && t) ≡ (s && not t)
-unfolding xor
-xor-less true true = refl
-xor-less true false = refl
-xor-less false t = refl
-
--- a mask less another
-pub bit-less : (a b k : ℕ) → bit (bitXor a (bitAnd a b)) k ≡ (bit a k && not (bit b k))
-bit-less a b k = bit-xor a (bitAnd a b) k ∙ ap (xor (bit a k)) (bit-and a b k) ∙ xor-less (bit a k) (bit b k)
+use Rattle.masks.specs.Parts.{highest}
+use Rattle.masks.proofs.BitLaws.{bit-past, bit-zero}
+use Rattle.masks.proofs.MaskOfLaws.{mask-below, mask-below-lt}
+use Rattle.masks.proofs.BelowLaws.{mask-at}
 
 -- it is set, and none above it is
 pub highest-set : (m : ℕ) → 0 < m → m < 2 ^ 32 →
@@ -54,37 +40,11 @@ module _ (f : ℕ → Bool) (n : ℕ) where
   abbrev mask : ℕ
   mask = maskOf (keep f (below n))
 
-  -- it is within another
-  pub mask-within : (b : ℕ) → every n (λ a. not (f a) || bit b a) ≡ eqb (bitAnd mask b) mask
-  mask-within b = sym (mask-subset (keep f (below n)) b ∙ kept-every f n (bit b))
-
-  -- the bit of a number below n
-  pub mask-at : (k : ℕ) → k < n → bit mask k ≡ f k
-  mask-at k l = mask-below f n k ∙ ap (λ (s : Bool). s && f k) (lt-ltb k n l)
-
-  -- it isn't empty
-  pub mask-some : some n f ≡ not (eqb mask 0)
-  mask-some = some-same n f (bit mask) (λ a l. sym (mask-at a l)) ∙ none-set n mask (mask-below-lt f n n (omega arith))
-
-  -- it meets another
-  pub mask-meets : (b : ℕ) → some n (λ a. f a && bit b a) ≡ not (eqb (bitAnd mask b) 0)
-  mask-meets b =
-      some-same n (λ a. f a && bit b a) (bit (bitAnd mask b))
-      (λ a l. sym (bit-and mask b a ∙ ap (λ (s : Bool). s && bit b a) (mask-at a l)))
-      ∙ none-set n (bitAnd mask b) (lt-of-le-of-lt (and-le-l mask b) (mask-below-lt f n n (omega arith)))
-
-  -- what is left of it
-  pub mask-less : (b : ℕ) → bitXor mask (bitAnd mask b) ≡ maskOf (keep (λ a. f a && not (bit b a)) (below n))
-  mask-less b =
-      bits-same _ _
-      (λ k. bit-less mask b k ∙ ap (λ (s : Bool). s && not (bit b k)) (mask-below f n k)
-      ∙ and-assoc (ltb k n) (f k) (not (bit b k)) ∙ sym (mask-below (λ a. f a && not (bit b a)) n k))
-
   -- none passes
   pub mask-none-last : mask ≡ 0 → lastOr f n (below n) ≡ n
   mask-none-last e =
       ⊎-elim (λ (q : lastOr f n (below n) ≡ n). q)
-      (λ q. absurd (not-either _ (q .1) (sym (mask-at z (below-lt q)) ∙ ap (λ (m : ℕ). bit m z) e ∙ bit-zero z)))
+      (λ q. absurd (not-either _ (q .1) (sym (mask-at f n z (below-lt q)) ∙ ap (λ (m : ℕ). bit m z) e ∙ bit-zero z)))
       (last-either f n (below n))
     where
       z : ℕ
@@ -116,5 +76,5 @@ module _ (f : ℕ → Bool) (n : ℕ) where
         where
           go : (b : Bool) → ltb (highest mask) (lastOr f n (below n)) ≡ b → lastOr f n (below n) ≤ highest mask
           go true q =
-              absurd (not-either _ (mask-at (lastOr f n (below n)) (top .1) ∙ hit) (set .2 _ (ltb-true _ _ q)))
+              absurd (not-either _ (mask-at f n (lastOr f n (below n)) (top .1) ∙ hit) (set .2 _ (ltb-true _ _ q)))
           go false q = ltb-false _ _ q

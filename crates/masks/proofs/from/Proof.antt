@@ -1,7 +1,7 @@
 use native.Mathlib.Nat.{lt-of-le-of-lt, div-mul-le-self, mod-eq-of-lt}
 use borrow.Author.Needs.{needs}
-use Rattle.fact_rows.proofs.from.Statement.{statement}
-use Rattle.fact_rows.proofs.from.Tie as tie
+use Rattle.masks.proofs.from.Statement.{statement}
+use Rattle.masks.proofs.from.Tie as tie
 
 shr-result : tie.Need-shr-result
 shr-result c = search needs
