@@ -1,18 +1,13 @@
 -- From reading to each entry: what a table that was read has, and what the whole refusal is.
-use Prim.Native.Nat.{ℕ, _<_}
+use Prim.Native.Nat.{ℕ}
 use mathlib.Core.Path.{_≡_, refl, sym, ap, subst, _∙_}
 use mathlib.Core.List.{List, _++_}
 use mathlib.Core.Logic.{_≢_}
-use native.Mathlib.Omega.{arith}
 use Rattle.lists.specs.Reply.{Reply, refused}
-use Rattle.lists.proofs.SomeLaws.{none-at}
 use Rattle.table.specs.declared.Table.{Table}
-use Rattle.table.specs.Events.{hart, location}
 use Rattle.decode.specs.Layout.{editionOf}
 use Rattle.decode.specs.Decoded.{decoded}
 use Rattle.refusals.specs.Lines.{Refused, accepted, firstLine, unless, replyUnless}
-use Rattle.refusals.specs.TableLines.{line7}
-use Rattle.refusals.proofs.InRange.{places-in-range}
 use Rattle.refusals.proofs.PassedLaws.{refused-first, passed-first, entry-declined, entry-own, unless-refused}
 use Rattle.block.specs.Reading.{readingLines, readRefusal, readTable, noTable}
 use Rattle.block.proofs.ReadingLaws.{passed-table, most-fits}
@@ -22,6 +17,8 @@ use Rattle.model.specs.Returns.{returns}
 use Rattle.model.specs.Verdict.{Verdict, verdict}
 use Rattle.model.specs.Witness.{statedOutcome}
 use Rattle.model.specs.Prefixes.{clean}
+use Rattle.placing.specs.GoodTable.{GoodTable}
+use Rattle.placing.proofs.GoodTableLaws.{good-table}
 use Rattle.candidate.specs.Buffers.{written}
 use Rattle.search.specs.Replies.{tableReply, bufferAfter, prefixLength}
 use Rattle.answers.specs.Candidate.{candidateLines, orderLines}
@@ -37,19 +34,12 @@ module _ (s : List ℕ) (ok : readRefusal s ≡ accepted) where
   unfolding readTable
   table-read = ap (λ (r : Refused). unless r (decoded s) noTable) ok
 
-  -- its counts are in range, and each event's hart and location
+  -- it is good, and so its counts are in range, and each event's hart and location
+  pub good-read : GoodTable (decoded s)
+  good-read = good-table _ _ (decoded s) (most-fits (editionOf s)) (passed-table s ok)
+
   pub small-read : Small (decoded s)
-  small-read =
-      let r = passed-table s ok .counts in
-      record {
-        events = omega (arith, r .events, most-fits (editionOf s));
-        locations = r .locations;
-        each-hart = λ k l. omega (arith, place k l .0, r .harts);
-        each-location = λ k l. omega (arith, place k l .1, r .locations);
-      }
-    where
-      place : (k : ℕ) → k < decoded s .count → (hart (decoded s) k < decoded s .harts) × (location (decoded s) k < decoded s .locations)
-      place k l = places-in-range (decoded s) k (none-at (decoded s .count) (line7 (decoded s)) k (passed-table s ok .fields) l)
+  small-read = good-read .small
 
 -- The verdict entry.
 module _ (s rf gmo : List ℕ) where

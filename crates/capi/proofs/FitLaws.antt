@@ -69,7 +69,7 @@ module _ (t : Table) (small : Small t) where
   listed-short : (p : List ℕ) → p ∈ cleanPrefixes t → length p < 256
   unfolding cleanPrefixes
   listed-short p m =
-      omega (arith, listed-only (clean t) (memoryEvents t) (memoryCount t) p m .2, count-small small refl refl)
+      omega (arith, listed-only (clean t) (memoryEvents t) (memoryCount t) p m .2, count-small t small)
 
   -- so has a clean one
   clean-short : (p : List ℕ) → clean t p ≡ true → length p < 256

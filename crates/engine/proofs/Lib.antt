@@ -1,4 +1,5 @@
 pub mod StateLaws
 pub mod LoadLaws
 pub mod EngineLaws
+pub mod EnteredLaws
 pub mod StepLaws

@@ -24,7 +24,7 @@ use Rattle.ready_events.proofs.CleanLaws.{event, fresh, clean-snoc, clean-withi
 use Rattle.ready_events.proofs.KeptLaws.{back-current}
 
 -- the mask of one more entry
-mask-snoc : (p : List ℕ) (e : ℕ) → maskOf (p ++ (e ∷ [])) ≡ bitOr (maskOf p) (2 ^ e)
+pub mask-snoc : (p : List ℕ) (e : ℕ) → maskOf (p ++ (e ∷ [])) ≡ bitOr (maskOf p) (2 ^ e)
 unfolding maskOf
 mask-snoc p e = mask-append p (e ∷ []) ∙ ap (bitOr (maskOf p)) (or-zero-l (2 ^ e))
 

@@ -1,7 +1,5 @@
-// The engine: it walks the ascending list of clean prefixes over masks of events, and knows nothing of what the events are.
+// The engine's steps over masks of events: it knows nothing of what the events are.
 use masks::has;
-use masks::lowest_set;
-use ready_events::Masks;
 use successors::SLOTS;
 ghost use Prim.Native.Nat.{_+_, _*_, _/_, _^_, _<_};
 ghost use mathlib.Core.Path.{_≡_};
@@ -9,7 +7,7 @@ ghost use lib.ListN.{length};
 ghost use Rattle.masks.specs.Bit.{bit};
 ghost use Rattle.successors.specs.CleanMasks.{slots, limit};
 ghost use Rattle.successors.specs.Waiting.{Prepared};
-ghost use Rattle.engine.specs.State.{Holds, LoadedAs, NextIs};
+ghost use Rattle.engine.specs.State.{LoadedAs};
 
 pub enum Loaded {
     // The start stands at the front of the order.
@@ -17,14 +15,8 @@ pub enum Loaded {
     Unclean,
 }
 
-pub enum Step {
-    // The next prefix: how many entries of the order it keeps, the event behind them, and its masks.
-    Place(usize, u8, Masks),
-    End,
-}
-
 // The bits of `m` past bit `e`.
-fn past(m: u32, e: u32) -> u32
+pub fn past(m: u32, e: u32) -> u32
     requires { ⌜ e < limit ⌝ }
     ensures { λ r. ⌜ r ≡ m / 2 ^ (e + 1) * 2 ^ (e + 1) ⌝ }
 {
@@ -68,35 +60,4 @@ pub fn load(
         len += 1;
     }
     Loaded::Ready { len, placed, can }
-}
-
-// The next clean prefix, in ascending order: with the lowest event that may come next behind it; where none may, entries
-// are taken back until a higher event can stand in the place of one.
-pub fn next(
-    pred: &[u32; SLOTS],
-    succ: &[u32; SLOTS],
-    mem: u32,
-    order: &[u8; SLOTS],
-    len: usize,
-    placed: u32,
-    can: u32,
-) -> Step
-    requires { ⌜ Prepared (now pred) (now succ) mem × Holds (now pred) mem (now order) len placed can ⌝ }
-    ensures { λ r. ⌜ NextIs (now (pred .entry)) mem (now (order .entry)) len r ⌝ }
-{
-    let mut keep = len;
-    let mut masks = Masks { placed, can };
-    let mut later = can;
-    while later == 0 {
-        if keep == 0 {
-            return Step::End;
-        }
-        keep -= 1;
-        let e = order[keep] as u32;
-        masks = ready_events::take_back(succ, e, masks.placed, masks.can);
-        later = past(masks.can, e);
-    }
-    let e = lowest_set(later);
-    let after = ready_events::place(pred, succ, mem, e, masks.placed, masks.can);
-    Step::Place(keep, e as u8, after)
 }

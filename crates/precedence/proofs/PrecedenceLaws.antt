@@ -18,20 +18,18 @@ use Rattle.lists.proofs.DistinctLaws.{before-left, before-last, distinct-last, 
 use Rattle.lists.proofs.SomeLaws.{some-same}
 use Rattle.lists.proofs.TakeLaws.{kept-every}
 use Rattle.lists.proofs.PaddedLaws.{padded-at}
-use Rattle.lists.proofs.AscendingLaws.{ascending-same}
 use Rattle.masks.specs.Bit.{bit}
 use Rattle.masks.specs.MaskOf.{maskOf}
 use Rattle.masks.proofs.MaskOfLaws.{mask-has, mask-subset}
 use Rattle.table.specs.declared.Table.{Table}
 use Rattle.table.specs.Events.{memory, memoryEvents, memoryCount, memoryMask}
-use Rattle.table.proofs.MemoryLaws.{memory-has, memory-distinct, memory-mask-small, memory-mask-ones}
+use Rattle.table.proofs.MemoryLaws.{memory-has, memory-distinct, memory-mask-ones}
 use Rattle.model.specs.Rules.{staticPpo}
 use Rattle.model.specs.Witness.{isMemoryEvent, isOrder, lawful, witnessFor}
-use Rattle.model.specs.Prefixes.{isPrefix, predecessorsListed, clean, cleanPrefixes}
-use Rattle.model.proofs.PrefixLaws.{clean-listed, clean-ascending}
-use Rattle.successors.specs.CleanMasks.{slots, ready, mayFollow, cleanFrom, cleanBy, masked}
+use Rattle.model.specs.Prefixes.{isPrefix, predecessorsListed, clean}
+use Rattle.successors.specs.CleanMasks.{slots, ready, mayFollow, cleanFrom, cleanBy}
 use Rattle.ready_events.proofs.CleanLaws.{clean-snoc}
-use Rattle.engine.proofs.EngineLaws.{whole, masked-only, masked-each, masked-ascending}
+use Rattle.engine.proofs.EngineLaws.{whole}
 use Rattle.precedence.specs.Precedence.{predecessorMask, predecessorMasks}
 
 -- the tests of a list with one more entry are those of the list and those of the entry; where n holds, l is k, which does not see the entry
@@ -176,19 +174,6 @@ module _ (t : Table) (small : t .count < slots) where
   pub clean-same : (p : List ℕ) → cleanBy (predecessorMasks t) (memoryMask t) p ≡ clean t p
   unfolding cleanBy cleanFrom clean isPrefix
   clean-same p = clean-on [] p refl
-
-  -- the engine's list is the list of clean prefixes
-  pub masked-same : masked (predecessorMasks t) (memoryMask t) ≡ cleanPrefixes t
-  masked-same =
-      ascending-same (masked preds mem) (cleanPrefixes t) (masked-ascending preds mem) (clean-ascending t)
-      (λ p m. let r = masked-only preds mem p m in clean-listed t p .1 (r .0, sym (clean-same p) ∙ r .1))
-      (λ p m. let r = clean-listed t p .0 m in masked-each preds mem (memory-mask-small t slots (omega arith)) p (r .0) (clean-same p ∙ r .1))
-    where
-      preds : List ℕ
-      preds = predecessorMasks t
-
-      mem : ℕ
-      mem = memoryMask t
 
   -- a clean prefix has all memory events exactly where its mask is theirs
   pub whole-mask : (p : List ℕ) → clean t p ≡ true → (maskOf p ≡ memoryMask t) ↔ (length p ≡ memoryCount t)

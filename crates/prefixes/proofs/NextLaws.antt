@@ -67,10 +67,10 @@ module _ (ok : List ℕ → Bool) (l : List (List ℕ)) (closed : PrefixClosed o
       passes : ok (p ++ (b .entry ∷ []) ++ b .rest) ≡ true
       passes = ap ok (append-assoc p (b .entry ∷ []) (b .rest) ∙ sym (b .whole)) ∙ only r m
 
-  -- x is the lowest entry from lo on that may follow p: it comes next
-  pub from-next : (p : List ℕ) (lo x : ℕ) → lo ≤ x → (p ++ (x ∷ [])) ∈ l → ((y : ℕ) → lo ≤ y → y < x → ok (p ++ (y ∷ [])) ≡ false) →
-      fromOn l p lo ≡ (p ++ (x ∷ [])) ∷ after (p ++ (x ∷ [])) l
-  from-next p lo x h m shut = skip (eq-or-lt-of-le h) ∙ at-least-entry (p ++ (x ∷ [])) l asc m
+  -- none from lo up to x may follow p: what is to come begins with p and x, or is greater
+  pub from-skip : (p : List ℕ) (lo x : ℕ) → lo ≤ x → ((y : ℕ) → lo ≤ y → y < x → ok (p ++ (y ∷ [])) ≡ false) →
+      fromOn l p lo ≡ fromOn l p x
+  from-skip p lo x h shut = skip (eq-or-lt-of-le h)
     where
       none : (r : List ℕ) → r ∈ l → less r (p ++ (lo ∷ [])) ≡ false → less r (p ++ (x ∷ [])) ≡ true → ⊥
       none r i d e = let b = between p lo x r d e in none-begins p lo r i (b .0) (shut (b .0 .entry) (b .0 .low) (b .1))
@@ -79,6 +79,11 @@ module _ (ok : List ℕ → Bool) (l : List (List ℕ)) (closed : PrefixClosed o
       skip (inl e) = ap (fromOn l p) e
       skip (inr q) =
           at-least-skip (p ++ (lo ∷ [])) (p ++ (x ∷ [])) l (less-append p (lo ∷ []) (x ∷ []) ∙ less-head lo x [] [] q) none
+
+  -- x is the lowest entry from lo on that may follow p: it comes next
+  pub from-next : (p : List ℕ) (lo x : ℕ) → lo ≤ x → (p ++ (x ∷ [])) ∈ l → ((y : ℕ) → lo ≤ y → y < x → ok (p ++ (y ∷ [])) ≡ false) →
+      fromOn l p lo ≡ (p ++ (x ∷ [])) ∷ after (p ++ (x ∷ [])) l
+  from-next p lo x h m shut = from-skip p lo x h shut ∙ at-least-entry (p ++ (x ∷ [])) l asc m
 
   -- none from lo on may follow p and e: what is to come begins with p and a greater entry than e
   pub from-back : (p : List ℕ) (e lo : ℕ) → ((y : ℕ) → lo ≤ y → ok (p ++ (e ∷ []) ++ (y ∷ [])) ≡ false) →

@@ -12,6 +12,7 @@ use borrow.Author.Tests.{lt-ltb, le-ltb}
 use Rattle.lists.specs.Reply.{Reply, refused, answered}
 use Rattle.table.specs.declared.Table.{Table}
 use Rattle.table.specs.Events.{memoryCount, memoryMask}
+use Rattle.table.specs.Counts.{Small}
 use Rattle.table.proofs.MemoryLaws.{memory-mask-small, memory-mask-ones}
 use Rattle.refusals.specs.Lines.{Refused, accepted, byLine, Line, firstLine, replyUnless}
 use Rattle.refusals.proofs.LineLaws.{none-here, whole-here, whole-next}
@@ -20,19 +21,27 @@ use Rattle.prefixes.specs.Listed.{after}
 use Rattle.prefixes.specs.Statements.{seek}
 use Rattle.prefixes.proofs.AnswerLaws.{seek-answer}
 use Rattle.model.specs.Witness.{witnessFor, statedOutcome, witness}
-use Rattle.model.specs.Prefixes.{clean, prefixesBy, cleanPrefixes, searchBy}
+use Rattle.model.specs.Prefixes.{clean, prefixesBy, searchBy}
+use Rattle.placing.specs.GoodTable.{GoodTable}
+use Rattle.fact_rows.specs.FactRows.{Facts}
 use Rattle.successors.specs.CleanMasks.{slots, limit, cleanBy}
-use Rattle.successors.specs.Waiting.{Prepared}
 use Rattle.engine.specs.State.{Began}
+use Rattle.engine.specs.Entered.{reachable, always}
+use Rattle.engine.proofs.EnteredLaws.{reachable-passes, reachable-always}
 use Rattle.precedence.specs.Precedence.{predecessorMasks}
-use Rattle.precedence.proofs.PrecedenceLaws.{clean-same}
 use Rattle.candidate.specs.CandidateLines.{startWrong, orderTooShort}
 use Rattle.candidate.specs.Buffers.{written}
 use Rattle.witness_walk.specs.declared.Ending.{Ending}
 use Rattle.witness_walk.specs.declared.Ending.the-variants.{Found, NoneLeft, Spent}
 use Rattle.witness_walk.specs.Ending.{answerOf}
-use Rattle.table.specs.Counts.{Small}
-use Rattle.witness_walk.specs.Running.{Masked, AtMost, Ran}
+use Rattle.witness_walk.specs.declared.Path.{Path}
+use Rattle.witness_walk.specs.declared.Followed.the-variants.{Reached, Cut}
+use Rattle.witness_walk.specs.Running.{AtMost, Enters, Watching, Follows, LeftOf, Runs, searchFrom}
+use Rattle.witness_walk.proofs.EntersLaws.{enters-always}
+use Rattle.witness_walk.proofs.RunLaws.{clean-is}
+use Rattle.refusals.specs.declared.Refusal.the-variants.{Line as Line·}
+use Rattle.search.specs.declared.Start.the-variants.{At, Unlisted}
+use Rattle.search.specs.Begins.{Beginning, BeginsAs, Replied, Searches}
 use Rattle.search.specs.declared.Reply as code
 use Rattle.search.specs.declared.Reply.the-variants.{Refused as Declined, Answered}
 use Rattle.search.specs.Replies.{replyOf, lengthOf, maxAllowance, startLines, tableReply, bufferAfter, prefixLength}
@@ -42,13 +51,6 @@ pub at-most : (o : Ending) (m n : ℕ) → m ≤ n → AtMost m o → AtMost n o
 at-most (Found len v) m n h a = omega arith
 at-most (NoneLeft v) m n h a = tt
 at-most (Spent len v) m n h a = omega arith
-
--- a search from a prefix and from another that is the same
-pub ran-from : (t : Table) {p q : List ℕ} {b : ℕ} {o : Ending} {order : List ℕ} → p ≡ q → Ran t (witness t) p b o order →
-    answerOf o order ≡ seek (witnessFor t (statedOutcome t)) (after q (prefixesBy t (clean t))) q b 0
-unfolding witness cleanPrefixes
-ran-from t {b = b} {o = o} {order = order} e r =
-    subst (λ (l : List ℕ). answerOf o order ≡ seek (witness t) (after l (cleanPrefixes t)) l b 0) e (r .answer)
 
 -- a prefix copied to the buffer's front: it stands there, the bytes past it stay, and its length is the one said
 pub copied : (say : List ℕ → Answer) (len : ℕ) (order out after : List ℕ) → len ≤ length order → after ≡ take len order ++ drop len out →
@@ -128,34 +130,20 @@ module _ (t : Table) (passes : List ℕ → Bool) (start out : List ℕ) (b : �
   none-refused h l m =
       whole-next _ _ _ _ _ (ap not h) (whole-next _ _ _ _ _ (le-ltb _ _ l) (whole-next _ _ _ _ _ (le-ltb _ _ m) (none-here _)))
 
--- the masks that the code makes of a table
-module _ {t : Table} (small : Small t) {preds : List ℕ} {mem : ℕ} (p : preds ≡ predecessorMasks t) (m : mem ≡ memoryMask t) where
-  few : t .count < slots
-  few = small .events
+-- the mask of a table's memory events
+module _ (t : Table) {mem : ℕ} (m : mem ≡ memoryMask t) where
+  pub mask-small : GoodTable t → mem < 2 ^ limit
+  mask-small good = subst (λ (x : ℕ). x < 2 ^ limit) (sym m) (memory-mask-small t limit (omega (arith, good .small .events)))
 
-  pub mask-small : mem < 2 ^ limit
-  mask-small = subst (λ (x : ℕ). x < 2 ^ limit) (sym m) (memory-mask-small t limit (omega (arith, few)))
-
-  pub tables-of : {succs : List ℕ} → Prepared preds succs mem → Masked t preds succs mem
-  tables-of q = record { small = small; predecessors = p; memory = m; prepared = q }
-
-  -- the ones of the memory mask count the memory events
+  -- its ones count them
   pub counted : ones mem ≡ memoryCount t
   counted = ap ones m ∙ memory-mask-ones t
 
-  -- there are fewer than slots
-  pub count-small : memoryCount t ≤ slots
-  count-small = subst (λ (x : ℕ). x ≤ slots) counted (ones-le slots mem (omega (arith, mask-small)))
-
-  -- clean by the masks is clean by the table
-  pub clean-by : (s : List ℕ) (r : Bool) → cleanBy preds mem s ≡ r → clean t s ≡ r
-  clean-by s r h =
-      sym (clean-same t few s) ∙ sym (ap (λ (l : List ℕ). cleanBy l (memoryMask t) s) p) ∙ sym (ap (λ (x : ℕ). cleanBy preds x s) m) ∙ h
-
-  -- a start that was read is clean
-  pub began-clean : (start order : List ℕ) (len placed can : ℕ) → Began preds mem start order len placed can → clean t start ≡ true
-  began-clean start order len placed can g =
-      clean-by start true (subst (λ (l : List ℕ). cleanBy preds mem l ≡ true) (g .same) (g .holds .clean))
+-- a table has fewer of them than slots
+pub count-small : (t : Table) → Small t → memoryCount t ≤ slots
+count-small t small =
+    subst (λ (x : ℕ). x ≤ slots) (memory-mask-ones t)
+    (ones-le slots (memoryMask t) (memory-mask-small t slots (omega (arith, small .events))))
 
 -- the length that a reply says is within the buffer that its prefix is read off
 pub length-within : (r : code.Reply) (out : List ℕ) → lengthOf r ≡ prefixLength (replyOf r out) → lengthOf r ≤ length out
@@ -163,3 +151,78 @@ length-within (Declined q) out e = omega arith
 length-within (Answered (Found len v)) out e = omega (arith, e, length-take len out)
 length-within (Answered (NoneLeft v)) out e = omega arith
 length-within (Answered (Spent len v)) out e = omega (arith, e, length-take len out)
+
+-- How a start begins: it isn't clean;
+pub begins-unclean : {facts : List (List ℕ)} {preds : List ℕ} {mem watched : ℕ} (start order goods : List ℕ) → cleanBy preds mem start ≡ false →
+    BeginsAs facts preds mem watched start order goods Unlisted
+begins-unclean start order goods h t enters w = reachable-passes enters (clean t) start (sym (clean-is w start) ∙ h)
+
+module _ {facts : List (List ℕ)} {preds start order : List ℕ} {mem watched : ℕ} (goods : List ℕ) {len placed can : ℕ}
+    (began : Began preds mem start order len placed can) where
+  -- a proper prefix of it isn't entered;
+  pub begins-cut : Follows facts watched order goods len can Cut → BeginsAs facts preds mem watched start order goods Unlisted
+  begins-cut f t enters w =
+      ap (reachable (clean t) enters) (sym (began .same))
+      ∙ f t enters (w .known) (w .entering) (sym (clean-is w (take len order)) ∙ began .holds .clean)
+
+  -- a walk gets to it
+  pub begins-at : {later : ℕ} → Follows facts watched order goods len can (Reached later) → LeftOf can (Reached later) →
+      length goods ≡ slots →
+      Beginning facts preds mem watched start order goods (record { keep = len; masks = record { placed = placed; can = can }; later = later })
+  begins-at f l long = record {
+    same = began .same;
+    holds = began .holds;
+    left = l;
+    long = long;
+    begun = λ t enters w. f t enters (w .known) (w .entering) (sym (clean-is w (take len order)) ∙ began .holds .clean);
+  }
+
+-- The replies of a call, for each list that the watched readers make.
+module _ {t : Table} {facts : List (List ℕ)} {preds : List ℕ} {mem watched : ℕ} (f : Facts t facts) (p : preds ≡ predecessorMasks t)
+    (m : mem ≡ memoryMask t) (start out : List ℕ) (b : ℕ) where
+  watch : {enters : List ℕ → Bool} → Enters t watched enters → Watching t facts preds mem watched enters
+  watch e = record { known = f; predecessors = p; memory = m; entering = e }
+
+  -- refused by a line
+  line-replied : (n : ℕ) → ((enters : List ℕ → Bool) → Enters t watched enters →
+      byLine n ≡ firstLine (t .count) (startLines t (reachable (clean t) enters) start out b)) →
+      Searches t watched start out b (Declined (Line· n)) out
+  line-replied n f enters e =
+      let r = call-refused t (reachable (clean t) enters) (statedOutcome t) start out b n (f enters e) in
+      record { reply = r .0; buffer = r .1 .0; length = r .1 .1 }
+
+  pub unlisted-replied : (order goods : List ℕ) → BeginsAs facts preds mem watched start order goods Unlisted →
+      Searches t watched start out b (Declined (Line· 15)) out
+  unlisted-replied order goods u = line-replied 15 (λ enters e. start-refused t (reachable (clean t) enters) start out b (u t enters (watch e)))
+
+  module _ {order goods : List ℕ} {from : Path} (g : Beginning facts preds mem watched start order goods from) where
+    listed : {enters : List ℕ → Bool} → Enters t watched enters → reachable (clean t) enters start ≡ true
+    listed {enters} e = ap (reachable (clean t) enters) (sym (g .same)) ∙ g .begun t enters (watch e) .reached
+
+    pub room-replied : length out < memoryCount t → Searches t watched start out b (Declined (Line· 16)) out
+    room-replied h = line-replied 16 (λ enters e. room-refused t (reachable (clean t) enters) start out b (listed e) h)
+
+    pub allowance-replied : memoryCount t ≤ length out → maxAllowance < b → Searches t watched start out b (Declined (Line· 17)) out
+    allowance-replied h k = line-replied 17 (λ enters e. allowance-refused t (reachable (clean t) enters) start out b (listed e) h k)
+
+    -- the answer of the walk, handed out
+    pub walk-replied : (o : Ending) (last : List ℕ) (r : code.Reply) (left : List ℕ) → memoryCount t ≤ length out → b ≤ maxAllowance →
+        Runs facts preds mem watched order goods from b o last →
+        (replyOf r left ≡ answered (answerOf o last)) × ((left ≡ bufferAfter (answered (answerOf o last)) out)
+        × (lengthOf r ≡ prefixLength (answered (answerOf o last)))) →
+        Searches t watched start out b r left
+    unfolding witness
+    walk-replied o last r left h k ran d enters e =
+        let run = ran t enters (watch e) (g .begun t enters (watch e)) in
+        let said = answer-is t (reachable (clean t) enters) (statedOutcome t) start out b o last
+        (none-refused t (reachable (clean t) enters) start out b (listed e) h k)
+        (subst (λ (q : List ℕ). answerOf o last ≡ searchFrom t enters q b 0) (g .same) run) in
+        let c = call-answered t (reachable (clean t) enters) (statedOutcome t) start out b (answered (answerOf o last)) (replyOf r left)
+        (lengthOf r) left said d in
+        record { reply = c .0; buffer = c .1 .0; length = c .1 .1 }
+
+-- along the clean prefixes, where no reader is watched
+pub replied-always : (t : Table) (start out : List ℕ) (b : ℕ) {r : code.Reply} {after : List ℕ} → Searches t 0 start out b r after →
+    Replied t (clean t) start out b r after
+replied-always t start out b {r} {after} s =
+    subst (λ (ok : List ℕ → Bool). Replied t ok start out b r after) (reachable-always (clean t)) (s always (enters-always t))

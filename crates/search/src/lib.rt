@@ -1,10 +1,15 @@
 // A search of a table: what a call is refused for, the walk to the next witness, and its prefix handed out.
 use engine::Loaded;
+use event_sets::Sets;
+use fact_rows::ROWS;
 use ready_events::Masks;
 use refusals::Refusal;
 use successors::SLOTS;
+use table::CAPACITY;
 use table::Table;
 use witness_walk::Ending;
+use witness_walk::Followed;
+use witness_walk::Path;
 ghost use Prim.Native.Nat.{_≤_};
 ghost use mathlib.Core.List.{_++_};
 ghost use mathlib.Core.Path.{_≡_};
@@ -13,10 +18,13 @@ ghost use Rattle.successors.specs.CleanMasks.{slots};
 ghost use Rattle.lists.specs.Reply.{answered};
 ghost use Rattle.model.specs.Witness.{statedOutcome};
 ghost use Rattle.model.specs.Prefixes.{clean};
-ghost use Rattle.table.specs.Counts.{Small};
+ghost use Rattle.successors.specs.Waiting.{Prepared};
+ghost use Rattle.placing.specs.GoodTable.{GoodTable};
+ghost use Rattle.event_sets.specs.Sets.{setsOf};
 ghost use Rattle.witness_walk.specs.Ending.{answerOf};
 ghost use Rattle.witness_walk.specs.Running.{AtMost};
 ghost use Rattle.search.specs.Replies.{tableReply, bufferAfter, replyOf, lengthOf, prefixLength};
+ghost use Rattle.search.specs.Begins.{BeginsAs, Searches};
 
 // A reply to a search call; the prefix of Found and Spent stands at the front of the answer buffer.
 pub enum Reply {
@@ -59,31 +67,107 @@ fn deliver(ending: Ending, order: &[u8; SLOTS], out: &mut [u8]) -> Reply
     }
 }
 
-// A search call on a table: refusals 15, 16 and 17, the reply and the buffer.
-pub fn search(t: Table, start: &[u8], out: &mut [u8], allowance: u64) -> Reply
-    requires { ⌜ Small t ⌝ }
-    ensures { λ r. ⌜ replyOf r (now (out .exit)) ≡ tableReply t (clean t) (statedOutcome t) (now (start .entry)) (now (out .entry)) allowance ⌝ }
-    ensures { λ r. ⌜ now (out .exit) ≡ bufferAfter (tableReply t (clean t) (statedOutcome t) (now (start .entry)) (now (out .entry)) allowance) (now (out .entry)) ⌝ }
-    ensures { λ r. ⌜ lengthOf r ≡ prefixLength (tableReply t (clean t) (statedOutcome t) (now (start .entry)) (now (out .entry)) allowance) ⌝ }
+// A start that was read into the order and followed along the list.
+enum Start {
+    At(Path),
+    Unlisted,
+}
+
+// Reads a start into the front of the order and follows it as the walk would.
+fn begin(
+    facts: &[[u32; CAPACITY]; ROWS],
+    pred: &[u32; SLOTS],
+    succ: &[u32; SLOTS],
+    mem: u32,
+    watched: u32,
+    start: &[u8],
+    order: &mut [u8; SLOTS],
+    goods: &mut [u32; SLOTS],
+) -> Start
+    requires { ⌜ Prepared (now pred) (now succ) mem × (length (now order) ≡ slots) × (length (now goods) ≡ slots) ⌝ }
+    ensures { λ r. ⌜ BeginsAs (now (facts .entry)) (now (pred .entry)) mem watched (now (start .entry)) (now (order .exit)) (now (goods .exit)) r ⌝ }
 {
-    let sets = event_sets::of_table(t);
-    let pred = precedence::predecessors(t, sets);
+    let loaded = engine::load(pred, succ, mem, start, order);
+    match loaded {
+        Loaded::Unclean => Start::Unlisted,
+        Loaded::Ready { len, placed, can } => {
+            let followed = witness_walk::follow(facts, watched, &*order, len, can, goods);
+            match followed {
+                Followed::Cut => Start::Unlisted,
+                Followed::Reached(later) => {
+                    let masks = Masks { placed, can };
+                    Start::At(Path {
+                        keep: len,
+                        masks,
+                        later,
+                    })
+                }
+            }
+        }
+    }
+}
+
+// A search call on a table along the prefixes that a walk gets to which watches these readers: refusals 15, 16 and 17, the reply
+// and the buffer.
+pub fn search_watching(
+    t: Table,
+    s: Sets,
+    watched: u32,
+    start: &[u8],
+    out: &mut [u8],
+    allowance: u64,
+) -> Reply
+    requires { ⌜ GoodTable t × (s ≡ setsOf t) ⌝ }
+    ensures { λ r. ⌜ Searches t watched (now (start .entry)) (now (out .entry)) allowance r (now (out .exit)) ⌝ }
+{
+    let pred = precedence::predecessors(t, s);
     let mem = table::memory_mask(t);
     let succ = successors::successors(&pred, mem);
+    let facts = facts::of_table(t, s);
     let mut order = [0u8; SLOTS];
-    let loaded = engine::load(&pred, &succ, mem, start, &mut order);
-    match loaded {
-        Loaded::Unclean => Reply::Refused(Refusal::Line(15)),
-        Loaded::Ready { len, placed, can } => {
+    let mut goods = [0u32; SLOTS];
+    let begun = begin(
+        &facts,
+        &pred,
+        &succ,
+        mem,
+        watched,
+        start,
+        &mut order,
+        &mut goods,
+    );
+    match begun {
+        Start::Unlisted => Reply::Refused(Refusal::Line(15)),
+        Start::At(from) => {
             if out.len() < u32::count_ones(mem) as usize {
                 return Reply::Refused(Refusal::Line(16));
             }
             if ALLOWANCE < allowance {
                 return Reply::Refused(Refusal::Line(17));
             }
-            let masks = Masks { placed, can };
-            let ending = witness_walk::run(t, &pred, &succ, mem, &mut order, len, masks, allowance);
+            let ending = witness_walk::walk(
+                &facts,
+                &pred,
+                &succ,
+                mem,
+                watched,
+                &mut order,
+                &mut goods,
+                from,
+                allowance,
+            );
             deliver(ending, &order, out)
         }
     }
+}
+
+// A search call on a table along its clean prefixes: no reader is watched.
+pub fn search(t: Table, start: &[u8], out: &mut [u8], allowance: u64) -> Reply
+    requires { ⌜ GoodTable t ⌝ }
+    ensures { λ r. ⌜ replyOf r (now (out .exit)) ≡ tableReply t (clean t) (statedOutcome t) (now (start .entry)) (now (out .entry)) allowance ⌝ }
+    ensures { λ r. ⌜ now (out .exit) ≡ bufferAfter (tableReply t (clean t) (statedOutcome t) (now (start .entry)) (now (out .entry)) allowance) (now (out .entry)) ⌝ }
+    ensures { λ r. ⌜ lengthOf r ≡ prefixLength (tableReply t (clean t) (statedOutcome t) (now (start .entry)) (now (out .entry)) allowance) ⌝ }
+{
+    let s = event_sets::of_table(t);
+    search_watching(t, s, 0, start, out, allowance)
 }

@@ -6,11 +6,7 @@ use mathlib.Core.List.{List, [], _∷_}
 use lib.ListN.{getD}
 use lib.Dec.{eqb}
 use lib.Bits.{bitAnd, bitOr}
-use lib.Count.{ones}
-use Rattle.lists.specs.Below.{below}
-use Rattle.lists.specs.Lists.{keep}
 use Rattle.masks.specs.Bit.{bit}
-use Rattle.prefixes.specs.Listed.{listed}
 
 -- the bits of a mask, and the entries of an order
 abbrev pub slots : ℕ
@@ -36,7 +32,3 @@ cleanFrom preds mem placed (e ∷ p) = mayFollow preds mem placed e && cleanFrom
 -- distinct events, each with all that must stand before it before it
 unfoldable pub cleanBy : List ℕ → ℕ → List ℕ → Bool
 cleanBy preds mem p = cleanFrom preds mem 0 p
-
--- the nonempty clean prefixes, ascending
-unfoldable pub masked : List ℕ → ℕ → List (List ℕ)
-masked preds mem = listed (cleanBy preds mem) (keep (bit mem) (below slots)) (ones mem)

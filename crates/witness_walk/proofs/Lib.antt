@@ -1,2 +1,4 @@
+pub mod EntersLaws
 pub mod RunLaws
-pub mod WitnessLaws
+pub mod WalkLaws
+pub mod FollowLaws

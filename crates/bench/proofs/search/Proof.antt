@@ -1,5 +1,5 @@
-use Rattle.bench.proofs.EntryLaws.{table-read, small-read, search-declined, search-answered}
-use Rattle.table.specs.Counts.{Small}
+use Rattle.bench.proofs.EntryLaws.{table-read, good-read, search-declined, search-answered}
+use Rattle.placing.specs.GoodTable.{GoodTable}
 use Rattle.refusals.specs.Refusals.{refusalOf}
 use Rattle.refusals.proofs.LineLaws.{line-refuses, record-refuses}
 use mathlib.Core.Path.{ap, sym, subst, _∙_}
@@ -14,7 +14,7 @@ enum-told : tie.Need-enum-told
 enum-told c = search needs
 
 search-requires : tie.Need-search-requires
-search-requires c κs = subst Small (sym (c .before .before .before .before .read .ensures .1 ∙ table-read _ (sym (c .before .before .before .before .read .ensures .0) ∙ ap refusalOf (c .before .enum-told .given .1)))) (small-read _ (sym (c .before .before .before .before .read .ensures .0) ∙ ap refusalOf (c .before .enum-told .given .1)))
+search-requires c κs = subst GoodTable (sym (c .before .before .before .before .read .ensures .1 ∙ table-read _ (sym (c .before .before .before .before .read .ensures .0) ∙ ap refusalOf (c .before .enum-told .given .1)))) (good-read _ (sym (c .before .before .before .before .read .ensures .0) ∙ ap refusalOf (c .before .enum-told .given .1)))
 
 enum-known-refusal : tie.Need-enum-known-refusal
 enum-known-refusal c = search needs

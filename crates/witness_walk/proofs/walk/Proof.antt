@@ -1,216 +1,197 @@
-use Prim.Native.Nat.{ℕ, suc, _+_, _-_, _≤_}
-use mathlib.Core.Path.{_≡_, ap, sym, subst, _∙_}
-use mathlib.Core.Bool.{true, false}
+use Prim.Native.Nat.{_+_, _-_, _*_, _<_}
+use mathlib.Core.Path.{_≡_, refl}
 use native.Mathlib.Omega.{arith}
-use native.Mathlib.Numerals.{add-one}
-use native.Mathlib.Nat.{sub-zero}
-use lib.ListN.{take, set}
-use lib.Count.{ones, ones-le}
+use lib.ListN.{getD}
+use lib.Count.{trailingZeros}
 use borrow.Author.Tests.{not-true, not-false}
-use Rattle.prefixes.specs.Answer.{found, spent}
-use Rattle.model.specs.Witness.{isOrder, lawful, witness}
-use Rattle.engine.specs.State.{Moved, NextIs, Holds}
-use Rattle.values.specs.QuickTest.{Listed}
-use Rattle.values.proofs.OrderLaws.{order-listed}
-use Rattle.witness_walk.specs.Running.{searchFrom}
-use Rattle.witness_walk.proofs.WitnessLaws.{value-differs, lawful-decides, final-room}
-use Rattle.witness_walk.proofs.RunLaws.{total-ones, held-clean, held-long, held-short, run-none, run-spent, run-found, run-on, whole-is-order, part-is-none, ran-as}
+use Rattle.successors.specs.CleanMasks.{slots, limit}
+use Rattle.engine.proofs.StepLaws.{stand-room, stand-last, lowest-below, lowest-may, next-room}
+use Rattle.witness_walk.proofs.WalkLaws.{Going, going-start, going-none, going-back, going-spent, going-fitting}
+use Rattle.witness_walk.proofs.WalkLaws.{going-found, going-past, going-whole, going-on}
 use borrow.Author.Needs.{needs}
 use Rattle.witness_walk.proofs.walk.Statement.{statement}
 use Rattle.witness_walk.proofs.walk.Tie as tie
+use Rattle.witness_walk.proofs.walk.Reads as reads
+use Rattle.witness_walk.proofs.walk.Lts as lts
+use Rattle.engine.proofs.past.Reads as past-reads
+use Rattle.masks.proofs.lowest_set.Reads as lowest-set-reads
+use Rattle.masks.proofs.one.Reads as one-reads
+use Rattle.order_test.proofs.is_witness.Reads as is-witness-reads
+use Rattle.ready_events.proofs.place.Reads as place-reads
+use Rattle.ready_events.proofs.take_back.Reads as take-back-reads
+use Rattle.witness_walk.proofs.enters.Reads as enters-reads
+use Rattle.witness_walk.proofs.found.Reads as found-reads
+use Rattle.witness_walk.proofs.note_good.Reads as note-good-reads
+use Rattle.witness_walk.proofs.spent.Reads as spent-reads
 
 abbrev Inv-loop : tie.InvT-loop
-Inv-loop t pred succ mem readers rivals own right finals writers lasting order₀ start budget total len₀ masks₀ visited₀ order len masks visited =
-    (visited ≤ budget) × Holds pred mem order len (masks .placed) (masks .can)
-    × (searchFrom t (witness t) (take len₀ order₀) budget 0 ≡ searchFrom t (witness t) (take len order) (budget - visited) visited)
+Inv-loop facts pred succ mem watched order₀ goods₀ budget keep₀ masks₀ later₀ last₀ visited₀ order goods keep masks later last visited =
+    Going facts pred succ mem watched order₀ goods₀ keep₀ (masks₀ .can) later₀ budget order goods keep (masks .placed) (masks .can) later last visited
 
 abbrev μ-loop : tie.MeasureT-loop
-μ-loop t pred succ mem readers rivals own right finals writers lasting order₀ start budget total len₀ masks₀ visited₀ order len masks visited =
-    budget - visited
+μ-loop facts pred succ mem watched order₀ goods₀ budget keep₀ masks₀ later₀ last₀ visited₀ order goods keep masks later last visited =
+    (budget - visited) * 64 + keep
 
--- the engine's next step, once it is known to place an event
-moved : (c : tie.After-step Inv-loop μ-loop) →
-    let v = c .before .before .before .before .loop in
-    let a = c .before .before .before .before .before .args in
-    let g = c .step .given .0 in
-    Moved (a .pred .now) (a .mem) (v .order) (v .len) (g .0) (g .1 .0) (g .1 .1 .0 .placed) (g .1 .1 .0 .can)
-moved c =
-    let v = c .before .before .before .before .loop in
-    let a = c .before .before .before .before .before .args in
-    subst (NextIs (a .pred .now) (a .mem) (v .order) (v .len)) (c .step .given .1) (c .before .before .next .ensures)
+-- the last entry is an event
+last-event : (c : tie.Else2 Inv-loop μ-loop) →
+    getD (c .before .before .loop .order) (c .before .before .loop .keep - 1) 0 < limit
+last-event c = stand-last (c .before .before .loop .inv .stands) (omega arith) refl
 
--- the budget isn't used up yet
-budget-left : (c : tie.Else1 Inv-loop μ-loop) →
-    let v = c .before .before .before .before .before .before .loop in
-    let a = c .before .before .before .before .before .before .before .args in
-    a .budget - v .visited ≡ suc (a .budget - (v .visited + 1))
-budget-left c = omega arith
+-- What is known once the next event is chosen.
+module _ (d : tie.After-lowest-set Inv-loop μ-loop) where
+  inv : let v = d .before .before .before .loop in
+      let a = d .before .before .before .before .before .args in
+      Going (a .facts .now) (a .pred .now) (a .succ .now) (a .mem) (a .watched) (a .order .now) (a .goods .now) (a .from .keep)
+      (a .from .masks .can) (a .from .later) (a .budget) (v .order) (v .goods) (v .keep) (v .masks .placed) (v .masks .can) (v .later)
+      (v .last) (v .visited)
+  inv = d .before .before .before .loop .inv
 
--- the prefix visited is no witness: the walk goes on from it
-onward : (c : tie.Else1 Inv-loop μ-loop) →
-    let v = c .before .before .before .before .before .before .loop in
-    let a = c .before .before .before .before .before .before .before .args in
-    let g = c .before .before .step .given .0 in
-    let o = set (v .order) (g .0) (g .1 .0) in
-    witness (a .t) (take (g .0 + 1) o) ≡ false →
-    (v .visited + 1 ≤ a .budget) × Holds (a .pred .now) (a .mem) o (g .0 + 1) (g .1 .1 .0 .placed) (g .1 .1 .0 .can)
-    × (searchFrom (a .t) (witness (a .t)) (take (a .start) (a .order .now)) (a .budget) 0 ≡ searchFrom (a .t) (witness (a .t)) (take (g .0 + 1) o) (a .budget - (v .visited + 1)) (v .visited + 1))
-onward c w =
-    let v = c .before .before .before .before .before .before .loop in
-    let s = c .before .before .before .before .before .before .before in
-    let g = c .before .before .step .given .0 in
-    let o = set (v .order) (g .0) (g .1 .0) in
-    let m = moved (c .before .before) in (
-      omega arith,
-      m .holds,
-      v .inv .2 ∙ run-on (s .pre .0 .0) (v .inv .1) m (witness (s .args .t)) _ _ (s .args .budget - (v .visited + 1)) (budget-left c) w
-          ∙ ap (searchFrom (s .args .t) (witness (s .args .t)) (take (g .0 + 1) o) (s .args .budget - (v .visited + 1))) (sym (add-one (v .visited))),
-    )
+  some : d .before .before .before .loop .later ≡ 0 → ⊥
+  some = d .before .before .if1 .left
 
--- the prefix visited has all memory events: it is an order
-whole : (c : tie.Else1 Inv-loop μ-loop) →
-    let v = c .before .before .before .before .before .before .loop in
-    let a = c .before .before .before .before .before .before .before .args in
-    let g = c .before .before .step .given .0 in
-    g .0 + 1 ≡ ones (a .mem) → isOrder (a .t) (take (g .0 + 1) (set (v .order) (g .0) (g .1 .0))) ≡ true
-whole c e =
-    let s = c .before .before .before .before .before .before .before in
-    let m = moved (c .before .before) in
-    whole-is-order _ (s .pre .0 .0 .small) _ (held-clean (s .pre .0 .0) (m .holds))
-    (held-long (s .pre .0 .0) (m .holds) ∙ e ∙ total-ones (s .pre .0 .0))
+  low : d .lowest-set .result ≡ trailingZeros slots (d .before .before .before .loop .later)
+  low = d .lowest-set .ensures
 
--- so the scans may go over it
-listed : (c : tie.Else1 Inv-loop μ-loop) →
-    let v = c .before .before .before .before .before .before .loop in
-    let a = c .before .before .before .before .before .before .before .args in
-    let g = c .before .before .step .given .0 in
-    g .0 + 1 ≡ ones (a .mem) → Listed (set (v .order) (g .0) (g .1 .0)) (g .0 + 1)
-listed c e =
-    let s = c .before .before .before .before .before .before .before in
-    let m = moved (c .before .before) in
-    order-listed _ _ _ (omega (arith, s .pre .0 .0 .small .events)) (m .holds .long) (omega (arith, m .room)) (whole c e)
+  left : d .before .before .before .loop .visited ≡ d .before .before .before .before .before .args .budget → ⊥
+  left = d .before .if3 .left
 
-cast-total : tie.Need-cast-total Inv-loop μ-loop
-cast-total c = omega (arith, ones-le 32 (c .args .mem) (omega arith))
+  -- it is one of the events
+  event : d .lowest-set .result < limit
+  event = lowest-below (inv .stands) some low
 
 loop-holds : tie.Need-loop-holds Inv-loop μ-loop
-loop-holds c = (omega arith, c .pre .0 .1, ap (λ (b : ℕ). searchFrom (c .args .t) (witness (c .args .t)) (take (c .args .start) (c .args .order .now)) b 0) (sym (sub-zero (c .args .budget))))
-
-next-requires : tie.Need-next-requires Inv-loop μ-loop
-next-requires c κs = search needs
-
-enum-told : tie.Need-enum-told Inv-loop μ-loop
-enum-told c = search needs
+loop-holds c = let a = c .before in going-start _ (a .pre .0 .0) (a .pre .0 .1) (a .pre .1 .0) (a .pre .1 .1)
 
 returns : tie.Need-returns Inv-loop μ-loop
-returns c =
-    let v = c .before .before .before .before .loop in
-    let a = c .before .before .before .before .before .args in
-    record {
-      answer = sym (v .inv .2 ∙ run-none (c .before .before .before .before .before .pre .0 .0) (v .inv .1) (witness (a .t)) _ _
-          (subst (NextIs (a .pred .now) (a .mem) (v .order) (v .len)) (c .enum-told .given .1) (c .before .before .next .ensures)));
-      long = v .inv .1 .long;
-      short = tt;
-    }
+returns c = going-none (c .before .before .loop .inv) (c .before .if1 .taken) (c .if2 .taken)
 
-enum-known-step : tie.Need-enum-known-step Inv-loop μ-loop
-enum-known-step c = search needs
+sub-keep : tie.Need-sub-keep Inv-loop μ-loop
+sub-keep c = search needs
 
-spent-requires : tie.Need-spent-requires Inv-loop μ-loop
-spent-requires c κs = search needs
+element-copy-out-e : tie.Need-element-copy-out-e Inv-loop μ-loop
+element-copy-out-e c = omega (arith, stand-room (c .before .before .loop .inv .stands))
 
-returns-2 : tie.Need-returns-2 Inv-loop μ-loop
-returns-2 c =
-    let v = c .before .before .before .before .before .before .before .loop in
-    let s = c .before .before .before .before .before .before .before .before in
-    ran-as (c .spent .ensures) record {
-      answer = sym (v .inv .2 ∙ run-spent (s .pre .0 .0) (v .inv .1) (moved (c .before .before .before)) (witness (s .args .t)) _ _ (omega arith)
-          ∙ ap (λ (n : ℕ). spent (take n (v .order)) (v .visited)) (v .inv .1 .counted));
-      long = v .inv .1 .long;
-      short = held-short (s .pre .0 .0) (v .inv .1);
-    }
+cast-e : tie.Need-cast-e Inv-loop μ-loop
+cast-e c = omega (arith, last-event (c .before))
 
-element-write-order : tie.Need-element-write-order Inv-loop μ-loop
-element-write-order c =
-    let v = c .before .before .before .before .before .before .loop in
-    omega (arith, moved (c .before .before) .room, v .inv .1 .long)
+take-back-requires : tie.Need-take-back-requires Inv-loop μ-loop
+take-back-requires c κs = omega (arith, last-event (c .before))
 
-add-len : tie.Need-add-len Inv-loop μ-loop
-add-len c = omega (arith, moved (c .before .before) .room)
-
-add-visited : tie.Need-add-visited Inv-loop μ-loop
-add-visited c = search needs
+past-requires : tie.Need-past-requires Inv-loop μ-loop
+past-requires c κs = last-event (c .before .before)
 
 loop-less : tie.Need-loop-less Inv-loop μ-loop
 loop-less c = search needs
 
 loop-again : tie.Need-loop-again Inv-loop μ-loop
 loop-again c =
-    let e = c .before in
-    let s = e .before .before .before .before .before .before .before in
-    onward e (part-is-none _ _ (λ q. c .if2 .taken (sym (held-long (s .pre .0 .0) (moved (e .before .before) .holds)) ∙ q ∙ sym (total-ones (s .pre .0 .0)))))
+    let d = c .before .before .before .before in
+    let b = c .before .take-back .ensures in
+    going-back (d .before .loop .inv) (d .if1 .taken) (omega arith) refl (b .0) (b .1) (c .past .ensures)
 
-agree-requires : tie.Need-agree-requires Inv-loop μ-loop
-agree-requires c κs =
-    let e = c .before .before in
-    let s = e .before .before .before .before .before .before .before in
-    (listed e (c .before .if2 .left), final-room (s .pre .0 .0 .small) (s .pre .1))
+spent-requires : tie.Need-spent-requires Inv-loop μ-loop
+spent-requires c κs = search needs
+
+returns-2 : tie.Need-returns-2 Inv-loop μ-loop
+returns-2 c =
+    let d = c .before in
+    going-spent (d .before .before .loop .inv) (d .before .if1 .left) refl _ (c .spent .ensures) (d .if3 .taken)
+
+lowest-set-requires : tie.Need-lowest-set-requires Inv-loop μ-loop
+lowest-set-requires c κs = search needs
+
+cast-order : tie.Need-cast-order Inv-loop μ-loop
+cast-order c = omega (arith, event c)
+
+element-write-order : tie.Need-element-write-order Inv-loop μ-loop
+element-write-order c = stand-room (c .before .before .before .loop .inv .stands)
+
+add-visited : tie.Need-add-visited Inv-loop μ-loop
+add-visited c = search needs
+
+one-requires : tie.Need-one-requires Inv-loop μ-loop
+one-requires c κs = omega (arith, event c)
+
+mul-enters : tie.Need-mul-enters Inv-loop μ-loop
+mul-enters c = omega (arith, stand-room (c .before .before .before .before .before .loop .inv .stands))
+
+element-copy-out-enters : tie.Need-element-copy-out-enters Inv-loop μ-loop
+element-copy-out-enters c = stand-room (c .before .before .before .before .before .loop .inv .stands)
+
+cast-enters : tie.Need-cast-enters Inv-loop μ-loop
+cast-enters c = omega (arith, event (c .before .before .before))
+
+enters-requires : tie.Need-enters-requires Inv-loop μ-loop
+enters-requires c κs = omega (arith, event (c .before .before .before))
 
 loop-less-2 : tie.Need-loop-less-2 Inv-loop μ-loop
 loop-less-2 c = search needs
 
 loop-again-2 : tie.Need-loop-again-2 Inv-loop μ-loop
 loop-again-2 c =
-    let e = c .before .before .before .before in
-    let s = e .before .before .before .before .before .before .before in
-    onward e (value-differs (s .pre .0 .0 .small) (s .pre .1) _ (whole e (c .before .before .before .if2 .left)) (not-true _ (rw (c .before .agree .ensures) at (c .if3 .taken))))
+    let o = c .before .before .before .before in
+    let d = o .before in
+    going-past (inv d) (some d) (low d) (left d) refl (o .one .ensures) refl _ (c .before .enters .ensures) (not-true _ (c .if4 .taken))
 
--- its values agree: it is a witness if it is lawful
-decided : (c : tie.Else3 Inv-loop μ-loop) →
-    let e = c .before .before .before .before in
-    let v = e .before .before .before .before .before .before .loop in
-    let a = e .before .before .before .before .before .before .before .args in
-    let g = e .before .before .step .given .0 in
-    let o = take (g .0 + 1) (set (v .order) (g .0) (g .1 .0)) in
-    witness (a .t) o ≡ lawful (a .t) o
-decided c =
-    let e = c .before .before .before .before in
-    let s = e .before .before .before .before .before .before .before in
-    lawful-decides (s .pre .0 .0 .small) (s .pre .1) _ (whole e (c .before .before .before .if2 .left)) (not-false _ (rw (c .before .agree .ensures) at (c .if3 .left)))
+add-is-witness : tie.Need-add-is-witness Inv-loop μ-loop
+add-is-witness c = omega (arith, stand-room (inv (c .before .before .before .before .before .before .before) .stands))
 
-is-lawful-requires : tie.Need-is-lawful-requires Inv-loop μ-loop
-is-lawful-requires c κs =
-    let e = c .before .before .before .before .before in
-    let s = e .before .before .before .before .before .before .before in
-    let m = moved (e .before .before) in (
-      (s .pre .0 .0 .small, m .holds .long, omega (arith, m .room)),
-      (whole e (c .before .before .before .before .if2 .left), held-clean (s .pre .0 .0) (m .holds)),
-    )
+is-witness-requires : tie.Need-is-witness-requires Inv-loop μ-loop
+is-witness-requires c κs =
+    let o = c .before .before .before .before .before .before in
+    let d = o .before in
+    going-fitting (inv d) (some d) (low d) (left d) refl (o .one .ensures)
 
 found-requires : tie.Need-found-requires Inv-loop μ-loop
 found-requires c κs = search needs
 
 returns-3 : tie.Need-returns-3 Inv-loop μ-loop
 returns-3 c =
-    let e = c .before .before .before .before .before .before .before .before in
-    let v = e .before .before .before .before .before .before .loop in
-    let s = e .before .before .before .before .before .before .before in
-    let g = e .before .before .step .given .0 in
-    let o = set (v .order) (g .0) (g .1 .0) in
-    let m = moved (e .before .before) in
-    ran-as (c .found .ensures) record {
-      answer = sym (v .inv .2 ∙ run-found (s .pre .0 .0) (v .inv .1) m (witness (s .args .t)) _ _ (s .args .budget - (v .visited + 1)) (budget-left e) (decided (c .before .before .before .before) ∙ sym (c .before .before .is-lawful .ensures) ∙ c .before .if4 .taken)
-          ∙ ap (λ (n : ℕ). found (take n o) (suc (v .visited))) (m .holds .counted)
-          ∙ ap (found (take (ones (g .1 .1 .0 .placed)) o)) (sym (add-one (v .visited))));
-      long = m .holds .long;
-      short = held-short (s .pre .0 .0) (m .holds);
-    }
+    let w = c .before .before .before in
+    let o = w .before .before .before .before .before .before in
+    let d = o .before in
+    going-found (inv d) (some d) (low d) (left d) refl (o .one .ensures) _ (w .before .if5 .taken) (c .before .before .is-witness .ensures)
+    (c .before .if6 .taken) _ (c .found .ensures)
 
 loop-less-3 : tie.Need-loop-less-3 Inv-loop μ-loop
 loop-less-3 c = search needs
 
 loop-again-3 : tie.Need-loop-again-3 Inv-loop μ-loop
-loop-again-3 c = onward (c .before .before .before .before .before .before .before) (decided (c .before .before .before) ∙ sym (c .before .is-lawful .ensures) ∙ c .if4 .left)
+loop-again-3 c =
+    let w = c .before .before in
+    let o = w .before .before .before .before .before .before in
+    let d = o .before in
+    going-whole (inv d) (some d) (low d) (left d) refl (o .one .ensures) refl _ (w .before .if5 .taken) (c .before .is-witness .ensures)
+    (c .if6 .left)
+
+cast-note-good : tie.Need-cast-note-good Inv-loop μ-loop
+cast-note-good c = omega (arith, event (c .before .before .before .before .before .before .before))
+
+note-good-requires : tie.Need-note-good-requires Inv-loop μ-loop
+note-good-requires c κs =
+    let o = c .before .before .before .before .before .before in
+    let d = o .before in
+    (inv d .long, next-room (inv d .stands) (some d) (low d) refl (o .one .ensures), omega (arith, event d))
+
+place-requires : tie.Need-place-requires Inv-loop μ-loop
+place-requires c κs =
+    let d = c .before .before .before .before .before .before .before .before in
+    (inv d .stands .tables, inv d .stands .holds .current, lowest-may (inv d .stands) (some d) (low d))
+
+add-keep : tie.Need-add-keep Inv-loop μ-loop
+add-keep c = omega (arith, stand-room (inv (c .before .before .before .before .before .before .before .before .before) .stands))
+
+loop-less-4 : tie.Need-loop-less-4 Inv-loop μ-loop
+loop-less-4 c = search needs
+
+loop-again-4 : tie.Need-loop-again-4 Inv-loop μ-loop
+loop-again-4 c =
+    let n = c .before .before in
+    let o = n .before .before .before .before .before .before in
+    let d = o .before in
+    going-on (inv d) (some d) (low d) (left d) refl (o .one .ensures) _ (n .before .before .before .enters .ensures)
+    (not-false _ (n .before .before .if4 .left)) (n .before .if5 .left) (c .before .note-good .ensures) (c .place .ensures .0)
+    (c .place .ensures .1)
 
 pub walk-spec : {M : Type 1} → statement M
 walk-spec =
@@ -218,24 +199,37 @@ walk-spec =
     (tie.spec
     Inv-loop
     μ-loop
-    cast-total
     loop-holds
-    next-requires
-    enum-told
     returns
-    enum-known-step
-    spent-requires
-    returns-2
-    element-write-order
-    add-len
-    add-visited
+    sub-keep
+    element-copy-out-e
+    cast-e
+    take-back-requires
+    past-requires
     loop-less
     loop-again
-    agree-requires
+    spent-requires
+    returns-2
+    lowest-set-requires
+    cast-order
+    element-write-order
+    add-visited
+    one-requires
+    mul-enters
+    element-copy-out-enters
+    cast-enters
+    enters-requires
     loop-less-2
     loop-again-2
-    is-lawful-requires
+    add-is-witness
+    is-witness-requires
     found-requires
     returns-3
     loop-less-3
-    loop-again-3)
+    loop-again-3
+    cast-note-good
+    note-good-requires
+    place-requires
+    add-keep
+    loop-less-4
+    loop-again-4)

@@ -1,0 +1,45 @@
+-- A search call along the prefixes that a walk gets to: how it begins, and what it replies.
+use Prim.Native.Nat.{ℕ}
+use mathlib.Core.Path.{_≡_}
+use mathlib.Core.Bool.{Bool, false}
+use mathlib.Core.List.{List}
+use mathlib.Core.Logic.{_⊎_}
+use lib.ListN.{length, take}
+use Rattle.table.specs.declared.Table.{Table}
+use Rattle.model.specs.Witness.{statedOutcome}
+use Rattle.model.specs.Prefixes.{clean}
+use Rattle.successors.specs.CleanMasks.{slots}
+use Rattle.engine.specs.State.{Holds}
+use Rattle.engine.specs.Entered.{reachable}
+use Rattle.witness_walk.specs.declared.Path.{Path}
+use Rattle.witness_walk.specs.Running.{Enters, Watching, Begun}
+use Rattle.search.specs.declared.Start.{Start}
+use Rattle.search.specs.declared.Start.the-variants.{At, Unlisted}
+use Rattle.search.specs.declared.Reply as code
+use Rattle.search.specs.Replies.{replyOf, lengthOf, tableReply, bufferAfter, prefixLength}
+
+-- the start stands at the front of the order, and a walk may go on from there
+pub record Beginning (facts : List (List ℕ)) (preds : List ℕ) (mem watched : ℕ) (start order goods : List ℕ) (from : Path) : Type 0 where
+  pub same : take (from .keep) order ≡ start
+  pub holds : Holds preds mem order (from .keep) (from .masks .placed) (from .masks .can)
+  pub left : (from .later ≡ from .masks .can) ⊎ (from .later ≡ 0)
+  pub long : length goods ≡ slots
+  pub begun : (t : Table) (enters : List ℕ → Bool) → Watching t facts preds mem watched enters →
+      Begun t enters watched order goods (from .keep) (from .masks .can) (from .later)
+
+-- a start that a walk doesn't get to has none
+abbrev pub BeginsAs : List (List ℕ) → List ℕ → ℕ → ℕ → List ℕ → List ℕ → List ℕ → Start → Type 0
+BeginsAs facts preds mem watched start order goods (At from) = Beginning facts preds mem watched start order goods from
+BeginsAs facts preds mem watched start order goods Unlisted =
+    (t : Table) (enters : List ℕ → Bool) → Watching t facts preds mem watched enters → reachable (clean t) enters start ≡ false
+
+-- a call along the prefixes that pass, for the outcome that the table states: the reply, the buffer and the length
+pub record Replied (t : Table) (passes : List ℕ → Bool) (start out : List ℕ) (b : ℕ) (r : code.Reply) (after : List ℕ) : Type 0 where
+  pub reply : replyOf r after ≡ tableReply t passes (statedOutcome t) start out b
+  pub buffer : after ≡ bufferAfter (tableReply t passes (statedOutcome t) start out b) out
+  pub length : lengthOf r ≡ prefixLength (tableReply t passes (statedOutcome t) start out b)
+
+-- the same for each list that these watched readers make
+abbrev pub Searches : Table → ℕ → List ℕ → List ℕ → ℕ → code.Reply → List ℕ → Type 0
+Searches t watched start out b r after =
+    (enters : List ℕ → Bool) → Enters t watched enters → Replied t (reachable (clean t) enters) start out b r after

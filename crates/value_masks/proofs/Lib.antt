@@ -1,2 +1,0 @@
-pub mod ValueMaskLaws
-pub mod LeavingLaws

@@ -1,4 +1,0 @@
-pub mod OrderLaws
-pub mod ReturnLaws
-pub mod LeftLaws
-pub mod ValueLaws

@@ -1,3 +1,0 @@
-pub mod DeterminedLaws
-pub mod ReaderLaws
-pub mod ReturnedLaws

@@ -1,0 +1,27 @@
+use mathlib.Core.Path.{refl, sym, _∙_}
+use borrow.Author.Needs.{needs}
+use Rattle.witness_walk.proofs.enters.Statement.{statement}
+use Rattle.witness_walk.proofs.enters.Tie as tie
+use Rattle.witness_walk.proofs.enters.Reads as reads
+use Rattle.witness_walk.proofs.enters.Lts as lts
+use Rattle.masks.proofs.has.Reads as has-reads
+use Rattle.order_test.proofs.reads_stated.Reads as reads-stated-reads
+
+-- src/lib.rt:63:8
+has-requires : tie.Need-has-requires
+has-requires c κs = search needs
+
+-- src/lib.rt:64:9
+reads-stated-requires : tie.Need-reads-stated-requires
+reads-stated-requires c κs = search needs
+
+-- src/lib.rt:59:1
+returns : tie.Need-returns
+returns c = rw (sym (c .before .before .has .ensures) ∙ c .before .if1 .taken) (c .reads-stated .ensures)
+
+-- src/lib.rt:59:1
+returns-2 : tie.Need-returns-2
+returns-2 c = rw (sym (c .before .has .ensures) ∙ c .if1 .left) refl
+
+pub enters-spec : {M : Type 1} → statement M
+enters-spec = tie.close (tie.spec has-requires reads-stated-requires returns returns-2)
