@@ -12,7 +12,7 @@ use Rattle.table.specs.declared.Table.{Table}
 use Rattle.table.specs.Events.{capacity}
 use Rattle.model.specs.Returns.{initialValue}
 use Rattle.placing.specs.GoodTable.{GoodTable}
-use Rattle.order_facts.specs.Facts.{maskBy, ownWriter, needed, opens, grounds, guards, here, right, good, peers, ends, unmet}
+use Rattle.order_facts.specs.Facts.{maskBy, ownWriter, needed, opens, grounds, guards, here, right, good, peers, wrong, unmet}
 
 -- row k
 abbrev pub row : List (List ℕ) → ℕ → List ℕ
@@ -54,8 +54,8 @@ setRow = 8
 abbrev pub goodWord : ℕ
 goodWord = 0
 
-abbrev pub endsWord : ℕ
-endsWord = 1
+abbrev pub wrongWord : ℕ
+wrongWord = 1
 
 abbrev pub unmetWord : ℕ
 unmetWord = 2
@@ -75,7 +75,7 @@ pub record Facts (t : Table) (facts : List (List ℕ)) : Type 0 where
   pub here : row facts hereRow ≡ masksBy t (here t)
   pub right : row facts rightRow ≡ masksBy t (right t)
   pub peers : row facts peerRow ≡ masksBy t (peers t)
-  -- in the last row: the good at the start, those that may end, and the locations that aren't met
+  -- in the last row: the good at the start, the writers of wrong final values, and the locations that aren't met
   pub good : mask facts setRow goodWord ≡ maskBy t (good t (initialValue t))
-  pub ends : mask facts setRow endsWord ≡ maskBy t (ends t)
+  pub wrong : mask facts setRow wrongWord ≡ maskBy t (wrong t)
   pub unmet : mask facts setRow unmetWord ≡ maskOf (keep (unmet t) (below (t .locations)))

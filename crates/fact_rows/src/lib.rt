@@ -38,7 +38,7 @@ pub const ROWS: usize = 9;
 // The words of the last row.
 pub const GOOD: usize = 0;
 
-pub const ENDS: usize = 1;
+pub const WRONG: usize = 1;
 
 pub const UNMET: usize = 2;
 

@@ -1,10 +1,10 @@
 // The facts of a table (crate `order_facts`), made once a call: the test of a whole order reads them in place of the table.
 use event_sets::Sets;
 use fact_rows::Around;
-use fact_rows::ENDS;
 use fact_rows::GOOD;
 use fact_rows::ROWS;
 use fact_rows::UNMET;
+use fact_rows::WRONG;
 use fact_rows::ground_row;
 use fact_rows::guard_row;
 use fact_rows::here_row;
@@ -31,8 +31,8 @@ ghost use Rattle.table.specs.Events.{capacity};
 ghost use Rattle.table.specs.Counts.{Small};
 ghost use Rattle.model.specs.Returns.{initialValue};
 ghost use Rattle.placing.specs.GoodTable.{GoodTable};
-ghost use Rattle.order_facts.specs.Facts.{maskBy, opens, good, ends, unmet};
-ghost use Rattle.fact_rows.specs.FactRows.{Facts, masksBy, goodWord, endsWord, unmetWord};
+ghost use Rattle.order_facts.specs.Facts.{maskBy, opens, good, wrong, unmet};
+ghost use Rattle.fact_rows.specs.FactRows.{Facts, masksBy, goodWord, wrongWord, unmetWord};
 ghost use Rattle.event_sets.specs.Sets.{setsOf};
 ghost use Rattle.facts.specs.Rows.{aroundOf, statedValues};
 
@@ -112,27 +112,27 @@ fn unmet_word(t: Table, s: Sets) -> u32
     mask
 }
 
-// The words of the last row: the good at the start, those that may end, and the locations that aren't met.
+// The words of the last row: the good at the start, the writers of wrong final values, and the locations that aren't met.
 fn words(t: Table, s: Sets) -> [u32; CAPACITY]
     requires { ⌜ Small t × (s ≡ setsOf t) ⌝ }
     ensures { λ row. ⌜ getD row goodWord 0 ≡ maskBy t (good t (initialValue t)) ⌝ }
-    ensures { λ row. ⌜ getD row endsWord 0 ≡ maskBy t (ends t) ⌝ }
+    ensures { λ row. ⌜ getD row wrongWord 0 ≡ maskBy t (wrong t) ⌝ }
     ensures { λ row. ⌜ getD row unmetWord 0 ≡ maskOf (keep (unmet t) (below (t .locations))) ⌝ }
 {
     let mut good: u32 = 0;
-    let mut ends: u32 = 0;
+    let mut wrong: u32 = 0;
     let mut e: u8 = 0;
     while e < t.count {
         let x = t.events[e as usize];
         let k = x.location.0 as usize;
         good = good | one_if(!table::reads(x) | (t.initial[k] == x.read), e);
-        let last = table::writes(x) & has(t.stated as u32, x.location.0 as u32);
-        ends = ends | one_if(!last | (x.written == t.finals[k]), e);
+        let stated = table::writes(x) & has(t.stated as u32, x.location.0 as u32);
+        wrong = wrong | one_if(stated & (x.written != t.finals[k]), e);
         e += 1;
     }
     let mut row = [0u32; CAPACITY];
     row[GOOD] = good;
-    row[ENDS] = ends;
+    row[WRONG] = wrong;
     row[UNMET] = unmet_word(t, s);
     row
 }

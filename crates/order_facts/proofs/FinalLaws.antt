@@ -1,20 +1,23 @@
--- The stated final values are left exactly if each writer that is the last of its location leaves its own, and those of locations
--- that nothing writes are the initial ones.
-use Prim.Native.Nat.{ℕ, _<_}
+-- The stated final values are left exactly if no wrong writer is the last of its location, and those of locations that nothing
+-- writes are the initial ones.
+use Prim.Native.Nat.{ℕ, suc, _<_}
 use mathlib.Core.Path.{_≡_, refl, sym, ap, subst, _∙_}
-use mathlib.Core.Bool.{Bool, true, false, not, _&&_}
-use mathlib.Core.List.{List}
+use mathlib.Core.Bool.{Bool, true, false, not, _&&_, and-assoc, and-comm, or-true}
+use mathlib.Core.List.{List, _∷_, _++_}
 use mathlib.Core.Logic.{⊎-elim}
-use lib.ListN.{length, getD}
+use lib.ListN.{length, getD, take, drop}
+use lib.Seq.{split-at}
 use lib.Dec.{eqb}
 use borrow.Author.Tests.{eq-eqb, eqb-true, ne-eqb, not-true, not-false}
-use Rattle.lists.specs.Below.{some, every}
-use Rattle.lists.specs.Lists.{all, has, before}
-use Rattle.lists.proofs.BoolLaws.{and-l, and-r, and-both, bool-ext, or-implied, implied, not-either, is-false}
+use Rattle.lists.specs.Below.{some}
+use Rattle.lists.specs.Lists.{all, has, distinct, before}
+use Rattle.lists.proofs.BoolLaws.{and-l, and-r, and-both, bool-ext, not-either, is-false, is-true, eqb-comm}
 use Rattle.lists.proofs.SomeLaws.{some-found, some-none, none-at}
 use Rattle.lists.proofs.ListLaws.{all-has}
-use Rattle.lists.proofs.MemberLaws.{has-all}
+use Rattle.lists.proofs.TakeLaws.{all-every}
+use Rattle.lists.proofs.MemberLaws.{has-all, has-append, has-here}
 use Rattle.lists.proofs.BeforeLaws.{before-has}
+use Rattle.lists.proofs.DistinctLaws.{before-at}
 use Rattle.lists.proofs.LatestLaws.{last-either, last-latest}
 use Rattle.masks.specs.Bit.{bit}
 use Rattle.table.specs.declared.Table.{Table}
@@ -22,12 +25,34 @@ use Rattle.table.specs.Events.{event, location, writes, sameLocation}
 use Rattle.model.specs.Rules.{initially}
 use Rattle.model.specs.Returns.{initialValue, writtenValue, lastWrite, finalValue}
 use Rattle.model.specs.Axioms.{breaksFinalValue, finalValues}
-use Rattle.placing.specs.Guards.{within}
-use Rattle.placing.specs.Entries.{ahead, among}
-use Rattle.placing.proofs.GuardLaws.{within-at, at-within}
 use Rattle.placing.proofs.KeptLaws.{Kept, self, trans, counted, not-initial, writer-in}
-use Rattle.placing.proofs.EntryLaws.{by-place}
-use Rattle.order_facts.specs.Facts.{peers, ends, mayEnd, unmet}
+use Rattle.order_facts.specs.Facts.{peers, wrong, unmet}
+
+-- w is wrong, and none of those behind it writes to its location
+unfoldable pub spoils : Table → List ℕ → ℕ → Bool
+spoils t behind w = wrong t w && all (λ v. not (peers t v w)) behind
+
+-- with one more behind it
+pub spoils-more : (t : Table) (v : ℕ) (behind : List ℕ) (w : ℕ) →
+    (spoils t behind w && not (peers t v w)) ≡ spoils t (v ∷ behind) w
+unfolding spoils
+spoils-more t v behind w = and-assoc (wrong t w) _ _ ∙ ap (λ (b : Bool). wrong t w && b) (and-comm _ (not (peers t v w)))
+
+-- with fewer
+pub spoils-fewer : (t : Table) (l behind : List ℕ) (w : ℕ) → spoils t (l ++ behind) w ≡ true → spoils t behind w ≡ true
+unfolding spoils
+spoils-fewer t l behind w h =
+    and-both (wrong t w) _ (and-l (wrong t w) _ h)
+    (has-all _ behind (λ v i. all-has (λ v. not (peers t v w)) (l ++ behind) v (and-r (wrong t w) _ h)
+    (has-append v l behind ∙ rw i (or-true (has v l)))))
+
+-- an entry has a place
+place-of : (x : ℕ) (l : List ℕ) → has x l ≡ true → (i : ℕ) × (i < length l) × (x ≡ getD l i 0)
+place-of x l h =
+    let none = is-false (all (λ y. not (eqb x y)) l) (λ q.
+    not-either _ (eq-eqb x x refl) (not-true _ (all-has (λ y. not (eqb x y)) l x q h))) in
+    let r = some-found (length l) (λ i. not (not (eqb x (getD l i 0)))) (not-false _ (sym (all-every _ l) ∙ none)) in
+    (r .0, r .1, eqb-true x _ (not-false _ (not-true _ (r .2))))
 
 module _ {t : Table} {gmo : List ℕ} (k : Kept t gmo) where
   -- w writes to location x
@@ -61,47 +86,70 @@ module _ {t : Table} {gmo : List ℕ} (k : Kept t gmo) where
   unfolding finalValue writtenValue
   last-left x w i q = ap (writtenValue t x) (sym q) ∙ rw (not-initial k w i)
 
-  -- the last writer of its location, of which all others stand before it
-  is-last : (e : ℕ) → has e gmo ≡ true → writes t e ≡ true → within t (ahead gmo e) (peers t e) ≡ true → e ≡ last (location t e)
-  unfolding peers sameLocation
-  is-last e i h w = go (eqb e z) refl
-    where
-      z : ℕ
-      z = last (location t e)
+  -- entry i, which is in the list, and those behind it
+  module _ (i : ℕ) (l : i < length gmo) where
+    abbrev entry : ℕ
+    entry = getD gmo i 0
 
-      later : before gmo e z ≡ true → ⊥
-      later b =
-          ⊎-elim (λ q. initial-out (ap (λ (x : ℕ). has x gmo) (sym q) ∙ before-has gmo e z b .1))
-          (λ q. self k e (trans k e z e b (within-at t (ahead gmo e) (peers t e) w z (counted k z (q .0))
-          (rw (
-            h,
-            and-l (writes t z) _ (q .1),
-            and-r (writes t z) _ (q .1),
-            ne-eqb z e (λ p. self k e (ap (before gmo e) (sym p) ∙ b)),
-          )))))
-          (last-either (to (location t e)) initially gmo)
+    abbrev behind : List ℕ
+    behind = drop (suc i) gmo
 
-      go : (b : Bool) → eqb e z ≡ b → e ≡ z
-      go true q = eqb-true e z q
-      go false q = absurd (later (write-last (location t e) e i (rw (h, eq-eqb (location t e) _ refl)) q))
+    entry-in : has entry gmo ≡ true
+    entry-in = ap (has entry) (split-at gmo i 0 l) ∙ has-here (take i gmo) behind entry
 
-  last-is : (e : ℕ) → has e gmo ≡ true → writes t e ≡ true → e ≡ last (location t e) → within t (ahead gmo e) (peers t e) ≡ true
-  unfolding peers sameLocation
-  last-is e i h w = at-within t (ahead gmo e) (peers t e) (λ a l q.
-      let n : eqb a e ≡ false = not-true _ (search (and-l, and-r)) in
-      let u : writes t a ≡ true = search (and-l, and-r) in
-      let s : eqb (location t a) (location t e) ≡ true = search (and-l, and-r) in
-      ap (before gmo a) w
-      ∙ write-last (location t e) a (writer-in k a l u) (and-both (writes t a) _ u s) (ap (eqb a) (sym w) ∙ n))
+    stands-behind : (v : ℕ) → before gmo entry v ≡ has v behind
+    stands-behind v =
+        let q = split-at gmo i 0 l in
+        ap (λ (m : List ℕ). before m entry v) q ∙ before-at (take i gmo) behind entry v (sym (ap distinct q) ∙ k .different)
 
-  left-ends : finalValues t gmo ≡ true → (e : ℕ) → has e gmo ≡ true → mayEnd t (ahead gmo e) e ≡ true
-  unfolding mayEnd ends finalValues breaksFinalValue
-  left-ends h e i = or-implied (within t (ahead gmo e) (peers t e)) _ (λ w.
-      or-implied (writes t e && bit (t .stated) (location t e)) _ (λ q.
-      let l = k .table .located e (counted k e i) in
-      let n = none-at (t .locations) (breaksFinalValue t gmo) (location t e) (not-true _ h) l in
-      let stated = and-r (writes t e) _ q in
-      rw (sym (last-left (location t e) e i (is-last e i (and-l (writes t e) _ q) w))) (not-false _ (rw stated at n))))
+    -- if none of them writes to its location, it is the last writer
+    is-last : writes t entry ≡ true → all (λ v. not (peers t v entry)) behind ≡ true → entry ≡ last (location t entry)
+    unfolding peers sameLocation
+    is-last h w = go (eqb entry z) refl
+      where
+        z : ℕ
+        z = last (location t entry)
+
+        later : before gmo entry z ≡ true → ⊥
+        later b =
+            ⊎-elim (λ q. initial-out (ap (λ (x : ℕ). has x gmo) (sym q) ∙ before-has gmo entry z b .1))
+            (λ q. not-either (peers t z entry)
+            (rw (
+              h,
+              and-l (writes t z) _ (q .1),
+              eqb-comm (location t entry) (location t z) ∙ and-r (writes t z) _ (q .1),
+              ne-eqb entry z (λ p. self k entry (ap (before gmo entry) p ∙ b)),
+            ))
+            (not-true _ (all-has (λ v. not (peers t v entry)) behind z w (sym (stands-behind z) ∙ b))))
+            (last-either (to (location t entry)) initially gmo)
+
+        go : (b : Bool) → eqb entry z ≡ b → entry ≡ z
+        go true q = eqb-true entry z q
+        go false q =
+            absurd (later (write-last (location t entry) entry entry-in (rw (h, eq-eqb (location t entry) _ refl)) q))
+
+    last-is : writes t entry ≡ true → entry ≡ last (location t entry) → all (λ v. not (peers t v entry)) behind ≡ true
+    unfolding peers sameLocation
+    last-is h w = has-all _ behind (λ v s. ap not (is-false (peers t v entry) (λ q.
+        let b = stands-behind v ∙ s in
+        let u : writes t v ≡ true = search (and-l, and-r) in
+        let at : eqb (location t v) (location t entry) ≡ true = eqb-comm (location t v) _ ∙ search (and-l, and-r) in
+        let n : eqb v entry ≡ false = eqb-comm v entry ∙ not-true _ (search (and-l, and-r)) in
+        self k entry (trans k entry v entry b
+        (ap (before gmo v) w
+        ∙ write-last (location t entry) v (before-has gmo entry v b .1) (and-both (writes t v) _ u at)
+        (ap (eqb v) (sym w) ∙ n))))))
+
+    left-ends : finalValues t gmo ≡ true → spoils t behind entry ≡ false
+    unfolding spoils wrong finalValues breaksFinalValue
+    left-ends h = is-false _ (λ q.
+        let n = none-at (t .locations) (breaksFinalValue t gmo) (location t entry) (not-true _ h)
+        (k .table .located entry (counted k entry entry-in)) in
+        let u : writes t entry ≡ true = search (and-l, and-r) in
+        let stated : bit (t .stated) (location t entry) ≡ true = search (and-l, and-r) in
+        let differs = and-r (writes t entry && bit (t .stated) (location t entry)) _ (and-l (wrong t entry) _ q) in
+        not-either _ differs
+        (rw (stated, last-left (location t entry) entry entry-in (is-last u (and-r (wrong t entry) _ q))) at n))
 
   left-met : finalValues t gmo ≡ true → (x : ℕ) → x < t .locations → unmet t x ≡ false
   unfolding unmet finalValues breaksFinalValue
@@ -128,18 +176,23 @@ module _ {t : Table} {gmo : List ℕ} (k : Kept t gmo) where
           (λ b. initial-out (ap (λ (x : ℕ). has x gmo) (sym q) ∙ before-has gmo (w .0) (last x) b .1))
           (last-latest (to x) initially gmo (w .0) w-in (w .2))
 
-  module _ (each : (e : ℕ) → has e gmo ≡ true → mayEnd t (ahead gmo e) e ≡ true)
+  module _ (none : some (length gmo) (λ i. spoils t (drop (suc i) gmo) (getD gmo i 0)) ≡ false)
       (met : (x : ℕ) → x < t .locations → unmet t x ≡ false) where
     -- the last writer of a location leaves its final value, if it is stated
     last-ends : (x w : ℕ) → w ≡ last x → has w gmo ≡ true → to x w ≡ true → bit (t .stated) x ≡ true →
         eqb (finalValue t gmo x) (getD (t .finals) x 0) ≡ true
-    unfolding mayEnd ends
-    last-ends x w q i h s =
+    unfolding spoils wrong
+    last-ends x w q i h s = is-true _ (λ n.
+        let r = place-of w gmo i in
         let u = and-l (writes t w) _ h in
         let at : location t w ≡ x = eqb-true (location t w) x (and-r (writes t w) _ h) in
-        let e = implied (within t (ahead gmo w) (peers t w)) _ (each w i) (last-is w i u (q ∙ ap last (sym at))) in
-        rw (last-left x w i q) (subst (λ (y : ℕ). eqb (event t w .written) (getD (t .finals) y 0) ≡ true) at
-        (implied (writes t w && bit (t .stated) (location t w)) _ e (rw (u, at) s)))
+        not-either _
+        (and-both _ _
+        (subst (λ (y : ℕ). (writes t y && bit (t .stated) (location t y)
+        && not (eqb (event t y .written) (getD (t .finals) (location t y) 0))) ≡ true) (r .2)
+        (rw (u, at, s, sym (last-left x w i q)) (ap not n)))
+        (last-is (r .0) (r .1) (ap (writes t) (sym (r .2)) ∙ u) (sym (r .2) ∙ q ∙ ap last (sym at ∙ ap (location t) (r .2)))))
+        (none-at (length gmo) (λ i. spoils t (drop (suc i) gmo) (getD gmo i 0)) (r .0) none (r .1)))
 
     ends-left : (x : ℕ) → x < t .locations → breaksFinalValue t gmo x ≡ false
     unfolding unmet breaksFinalValue
@@ -152,15 +205,13 @@ module _ {t : Table} {gmo : List ℕ} (k : Kept t gmo) where
         wrong false h s d = not-either _ (rw (unwritten-left x h) at d) (rw (s, h) at (met x l))
 
   -- by the entries
-  final-ends : finalValues t gmo ≡ (not (some (t .locations) (unmet t)) && all (λ e. mayEnd t (ahead gmo e) e) gmo)
-  unfolding finalValues
-  final-ends =
-      bool-ext _ _
-      (λ h. and-both _ _ (ap not (some-none (t .locations) (unmet t) (left-met h))) (has-all _ gmo (left-ends h)))
-      (λ h. ap not (some-none (t .locations) (breaksFinalValue t gmo)
-      (ends-left (λ e i. all-has (λ e. mayEnd t (ahead gmo e) e) gmo e (and-r (not (some (t .locations) (unmet t))) _ h) i)
-      (λ x l. none-at (t .locations) (unmet t) x (not-true _ (and-l _ _ h)) l))))
-
   pub final-entries : finalValues t gmo
-      ≡ (not (some (t .locations) (unmet t)) && every (length gmo) (λ i. mayEnd t (among gmo i) (getD gmo i 0)))
-  final-entries = final-ends ∙ ap (λ (b : Bool). not (some (t .locations) (unmet t)) && b) (by-place gmo (mayEnd t) (k .different))
+      ≡ (not (some (t .locations) (unmet t)) && not (some (length gmo) (λ i. spoils t (drop (suc i) gmo) (getD gmo i 0))))
+  unfolding finalValues
+  final-entries =
+      bool-ext _ _
+      (λ h. and-both _ _ (ap not (some-none (t .locations) (unmet t) (left-met h)))
+      (ap not (some-none (length gmo) _ (λ i l. left-ends i l h))))
+      (λ h. ap not (some-none (t .locations) (breaksFinalValue t gmo)
+      (ends-left (not-true _ (and-r (not (some (t .locations) (unmet t))) _ h))
+      (λ x l. none-at (t .locations) (unmet t) x (not-true _ (and-l _ _ h)) l))))

@@ -59,13 +59,9 @@ good t value r = not (reads t r) || eqb (value (location t r)) (event t r .read)
 unfoldable pub peers : Table → ℕ → ℕ → Bool
 peers t w v = writes t w && writes t v && sameLocation t v w && not (eqb v w)
 
--- ends: if w writes and the final value of its location is stated, it writes that
-unfoldable pub ends : Table → ℕ → Bool
-ends t w = not (writes t w && bit (t .stated) (location t w)) || eqb (event t w .written) (getD (t .finals) (location t w) 0)
-
--- e may be placed, as far as final values go: it isn't the last writer of its location, or leaves the final value
-unfoldable pub mayEnd : Table → (ℕ → Bool) → ℕ → Bool
-mayEnd t placed e = not (within t placed (peers t e)) || ends t e
+-- wrong: w writes, and the final value of its location is stated and isn't what it writes
+unfoldable pub wrong : Table → ℕ → Bool
+wrong t w = writes t w && bit (t .stated) (location t w) && not (eqb (event t w .written) (getD (t .finals) (location t w) 0))
 
 -- nothing writes to location x, and its stated final value isn't the initial one
 unfoldable pub unmet : Table → ℕ → Bool

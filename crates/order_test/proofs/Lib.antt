@@ -1,3 +1,4 @@
 pub mod LeftLaws
 pub mod TellLaws
 pub mod PassLaws
+pub mod EndLaws

@@ -3,43 +3,40 @@ use Prim.Native.Nat.{ℕ, _+_, _^_, _≤_, _<_}
 use native.Mathlib.Omega.{arith}
 use native.Mathlib.Numerals.{add-one}
 use mathlib.Core.Path.{_≡_, refl, sym, ap, ap₂, subst, _∙_, fun-ext}
-use mathlib.Core.Bool.{Bool, true, false, not, _&&_}
+use mathlib.Core.Bool.{Bool, true, false, _&&_, and-true}
 use mathlib.Core.List.{List, [], _∷_, _++_}
 use lib.ListN.{length, getD, take}
 use lib.Seq.{take-take, take-suc, getD-take, length-take-le}
 use lib.Bits.{bitAnd, bitOr, bitXor, or-zero-l}
 use lib.Dec.{eqb, ltb}
-use borrow.Author.Tests.{ltb-true, eqb-true, eqb-false, ne-eqb}
-use Rattle.lists.specs.Below.{below, some, every}
-use Rattle.lists.specs.Lists.{has, keep}
+use borrow.Author.Tests.{ltb-true, eqb-true, eqb-false}
+use Rattle.lists.specs.Below.{every}
+use Rattle.lists.specs.Lists.{has}
 use Rattle.lists.proofs.BoolLaws.{and-l, and-right, not-either, is-false}
-use Rattle.lists.proofs.SomeLaws.{at-every, every-at, every-both, some-same}
+use Rattle.lists.proofs.SomeLaws.{at-every, every-at}
 use Rattle.lists.proofs.ListLaws.{all-getD}
 use Rattle.masks.specs.Bit.{bit}
 use Rattle.masks.specs.MaskOf.{maskOf}
-use Rattle.masks.proofs.SubsetLaws.{none-set}
-use Rattle.masks.proofs.MaskOfLaws.{mask-has, mask-below-lt}
+use Rattle.masks.proofs.MaskOfLaws.{mask-has}
 use Rattle.masks.proofs.UnionLaws.{mask-append}
 use Rattle.table.specs.declared.Table.{Table}
 use Rattle.table.specs.Events.{capacity, memory}
+use Rattle.model.specs.Axioms.{finalValues}
 use Rattle.model.specs.Witness.{isMemoryEvent, isOrder, lawful, witness}
 use Rattle.model.specs.Prefixes.{clean}
 use Rattle.model.specs.Returns.{writtenValue, finalValue}
 use Rattle.placing.specs.Guards.{mayPlace, readsStated}
 use Rattle.placing.specs.Entries.{among, lawfulAt, statedAt}
 use Rattle.placing.proofs.EntryLaws.{lawful-entries, witness-entries}
-use Rattle.placing.proofs.KeptLaws.{clean-kept}
-use Rattle.order_facts.specs.Facts.{maskBy, here, right, good, mayEnd, unmet}
-use Rattle.masks.proofs.BelowLaws.{mask-at}
+use Rattle.order_facts.specs.Facts.{maskBy, here, right, good}
 use Rattle.order_facts.proofs.GoodLaws.{good-more}
-use Rattle.order_facts.proofs.FinalLaws.{final-entries}
-use Rattle.fact_rows.specs.FactRows.{mask, Facts, goodWord, hereRow, rightRow, setRow, unmetWord}
+use Rattle.fact_rows.specs.FactRows.{mask, Facts, goodWord, hereRow, rightRow, setRow}
 use Rattle.order_test.specs.Testing.{Tells, TellsGood, Judges, Fitting}
 use Rattle.order_test.proofs.TellLaws.{mask-is, standing}
 
 -- all that is asked of entry i of a witness
 unfoldable pub witnessAt : Table → List ℕ → ℕ → Bool
-witnessAt t gmo i = lawfulAt t gmo i && statedAt t gmo i && mayEnd t (among gmo i) (getD gmo i 0)
+witnessAt t gmo i = lawfulAt t gmo i && statedAt t gmo i
 
 module _ (facts : List (List ℕ)) (order : List ℕ) (len : ℕ) where
   abbrev gmo : List ℕ
@@ -66,7 +63,7 @@ module _ (facts : List (List ℕ)) (order : List ℕ) (len : ℕ) where
   placed-start = (omega arith, refl)
 
   module _ (fit : Fitting order len) (i : ℕ) (l : i < len) where
-    entry-is : getD gmo i 0 ≡ getD order i 0
+    pub entry-is : getD gmo i 0 ≡ getD order i 0
     entry-is = getD-take len order i 0 l
 
     long : length gmo ≡ len
@@ -112,7 +109,7 @@ module _ (facts : List (List ℕ)) (order : List ℕ) (len : ℕ) where
     unfolding witnessAt lawfulAt statedAt
     witness-told placed now r s g h t f o c =
         h t f (entry-event t o) (finalValue t (take i gmo)) (g t f o c)
-        ∙ ap₂ (λ (p : ℕ → Bool) (e : ℕ). mayPlace t p e && readsStated t p (finalValue t (take i gmo)) e && mayEnd t p e)
+        ∙ ap₂ (λ (p : ℕ → Bool) (e : ℕ). mayPlace t p e && readsStated t p (finalValue t (take i gmo)) e)
         (sym (among-mask placed s)) (sym entry-is)
 
     pub good-next : (now next : ℕ) → Good i now →
@@ -158,32 +155,15 @@ module _ (facts : List (List ℕ)) (order : List ℕ) (len : ℕ) where
   pub lawful-each : Always (λ t. lawful t gmo ≡ every (length gmo) (lawfulAt t gmo))
   lawful-each t f o c = lawful-entries t gmo (f .table) o c
 
-  -- some stated location that nothing writes isn't met
-  unmet-mask : (t : Table) → Facts t facts → some (t .locations) (unmet t) ≡ not (eqb (mask facts setRow unmetWord) 0)
-  unmet-mask t f =
-      some-same (t .locations) (unmet t) (bit wrong) (λ x l. sym (mask-at (unmet t) (t .locations) x l))
-      ∙ none-set (t .locations) wrong (mask-below-lt (unmet t) (t .locations) (t .locations) (omega arith))
-      ∙ ap (λ (m : ℕ). not (eqb m 0)) (sym (f .unmet))
-    where
-      wrong : ℕ
-      wrong = maskOf (keep (unmet t) (below (t .locations)))
-
-  pub witness-each : mask facts setRow unmetWord ≡ 0 → Always (λ t. witness t gmo ≡ every (length gmo) (witnessAt t gmo))
+  -- where the final values are left, the rest is told by the entries
+  pub witness-each : (r : Bool) → Judges facts gmo finalValues r → r ≡ true →
+      Always (λ t. witness t gmo ≡ every (length gmo) (witnessAt t gmo))
   unfolding witnessAt
-  witness-each z t f o c =
+  witness-each r h q t f o c =
       witness-entries t gmo (f .table) o c
-      ∙ ap (λ (b : Bool). every (length gmo) (λ i. lawfulAt t gmo i && statedAt t gmo i) && b)
-      (final-entries (clean-kept (f .table) o c)
-      ∙ ap (λ (b : Bool). not b && every (length gmo) ending) (unmet-mask t f ∙ ap (λ (m : ℕ). not (eqb m 0)) z))
-      ∙ sym (every-both (length gmo) (λ i. lawfulAt t gmo i && statedAt t gmo i) ending)
-    where
-      ending : ℕ → Bool
-      ending i = mayEnd t (among gmo i) (getD gmo i 0)
+      ∙ ap (λ (b : Bool). every (length gmo) (λ i. lawfulAt t gmo i && statedAt t gmo i) && b) (sym (h t f o c) ∙ q) ∙ and-true _
 
-  pub witness-unmet : (mask facts setRow unmetWord ≡ 0 → ⊥) → Judges facts gmo witness false
-  witness-unmet n t f o c =
+  pub witness-ends : (r : Bool) → Judges facts gmo finalValues r → r ≡ false → Judges facts gmo witness false
+  witness-ends r h q t f o c =
       sym (witness-entries t gmo (f .table) o c
-      ∙ and-right (every (length gmo) (λ i. lawfulAt t gmo i && statedAt t gmo i)) _
-      (final-entries (clean-kept (f .table) o c)
-      ∙ ap (λ (b : Bool). not b && every (length gmo) (λ i. mayEnd t (among gmo i) (getD gmo i 0)))
-      (unmet-mask t f ∙ ap not (ne-eqb _ 0 n))))
+      ∙ and-right (every (length gmo) (λ i. lawfulAt t gmo i && statedAt t gmo i)) _ (sym (h t f o c) ∙ q))

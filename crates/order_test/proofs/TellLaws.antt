@@ -2,7 +2,7 @@
 use Prim.Native.Nat.{ℕ, _<_, _≤_}
 use native.Mathlib.Omega.{arith}
 use mathlib.Core.Path.{_≡_, sym, ap, ap₂, subst, _∙_}
-use mathlib.Core.Bool.{Bool, true, false, not, _&&_, _||_, and-assoc, and-true}
+use mathlib.Core.Bool.{Bool, true, false, not, _&&_, _||_, and-true}
 use mathlib.Core.List.{List}
 use lib.ListN.{getD}
 use lib.Bits.{bitAnd, bitXor}
@@ -10,7 +10,7 @@ use lib.Dec.{eqb}
 use borrow.Author.Tests.{ltb-true}
 use Rattle.lists.specs.Below.{some}
 use Rattle.lists.proofs.SomeLaws.{some-at, some-found}
-use Rattle.lists.proofs.BoolLaws.{and-l, and-r, and-taken, and-left, and-right, bool-ext}
+use Rattle.lists.proofs.BoolLaws.{and-l, and-taken, and-left, and-right, bool-ext}
 use Rattle.lists.proofs.PaddedLaws.{padded-at}
 use Rattle.masks.specs.Bit.{bit}
 use Rattle.masks.specs.Parts.{highest}
@@ -20,11 +20,10 @@ use Rattle.masks.proofs.BelowLaws.{mask-at}
 use Rattle.table.specs.declared.Table.{Table}
 use Rattle.table.specs.Events.{capacity, reads, writes}
 use Rattle.placing.specs.Guards.{mayRead, mayWrite, mayPlace, readsStated}
-use Rattle.order_facts.specs.Facts.{maskBy, ownWriter, needed, opens, grounds, isOpen, guards, right, good, peers, ends, mayEnd}
-use Rattle.order_facts.proofs.ReadLaws.{within-mask, read-none, stated-none, w-counted, read-some, stated-some}
+use Rattle.order_facts.specs.Facts.{maskBy, ownWriter, needed, opens, grounds, isOpen, guards, right, good}
+use Rattle.order_facts.proofs.ReadLaws.{read-none, stated-none, w-counted, read-some, stated-some}
 use Rattle.order_facts.proofs.WriteLaws.{bars, write-bars, open-mask}
 use Rattle.fact_rows.specs.FactRows.{row, mask, masksBy, Facts, ownRow, needsRow, windowRow, groundRow, guardRow, rightRow}
-use Rattle.fact_rows.specs.FactRows.{peerRow, setRow, endsWord}
 use Rattle.order_test.specs.Testing.{Tells, TellsGood, openBy}
 
 module _ {t : Table} {facts : List (List ℕ)} (f : Facts t facts) where
@@ -36,7 +35,7 @@ module _ {t : Table} {facts : List (List ℕ)} (f : Facts t facts) where
   mask-is k g q e l = ap (λ (x : List ℕ). getD x e 0) q ∙ padded-at (λ x. maskBy t (g x)) capacity (t .count) e room l
 
 -- the bit of an event in a mask of those that pass
-mask-bit : (t : Table) (g : ℕ → Bool) (e : ℕ) → e < t .count → bit (maskBy t g) e ≡ g e
+pub mask-bit : (t : Table) (g : ℕ → Bool) (e : ℕ) → e < t .count → bit (maskBy t g) e ≡ g e
 unfolding maskBy
 mask-bit t g e l = mask-at g (t .count) e l
 
@@ -138,15 +137,6 @@ module _ (facts : List (List ℕ)) (placed e : ℕ) where
   tell-barring m b q h t f l =
       ap not (sym h ∙ ap (λ (x : ℕ). some capacity (λ v. bit x v && openBy facts placed v)) q) ∙ tell-write t f l
 
-  -- The last writer of a location.
-  pub tell-end : Tells facts e (λ t. mayEnd t (bit placed) e)
-      (not (eqb (bitAnd (mask facts peerRow e) placed) (mask facts peerRow e)) || bit (mask facts setRow endsWord) e)
-  unfolding mayEnd
-  tell-end t f l =
-      ap₂ (λ (a : ℕ) (b : Bool). not (eqb (bitAnd a placed) a) || b) (mask-is f peerRow (peers t) (f .peers) e l)
-      (ap (λ (x : ℕ). bit x e) (f .ends) ∙ mask-bit t (ends t) e l)
-      ∙ sym (ap (λ (b : Bool). not b || ends t e) (within-mask t placed (peers t e)))
-
   -- Both as a reader and as a writer.
   pub tell-place : (a b : Bool) → Tells facts e (λ t. not (reads t e) || mayRead t (bit placed) e) a →
       Tells facts e (λ t. not (writes t e) || mayWrite t (bit placed) e) b → a ≡ true →
@@ -161,19 +151,11 @@ module _ (facts : List (List ℕ)) (placed e : ℕ) where
 
   -- All that is asked of an entry of a witness.
   abbrev pub standing : Table → (ℕ → ℕ) → Bool
-  standing t value = mayPlace t (bit placed) e && readsStated t (bit placed) value e && mayEnd t (bit placed) e
+  standing t value = mayPlace t (bit placed) e && readsStated t (bit placed) value e
 
-  module _ {now : ℕ} {a b : Bool} (h : TellsGood facts now e (λ t value. readsStated t (bit placed) value e) a)
-      (k : Tells facts e (λ t. mayEnd t (bit placed) e) b) where
-    pub tell-stands : (r : Bool) → Tells facts e (λ t. mayPlace t (bit placed) e) r → (a && b) ≡ true →
-        TellsGood facts now e standing r
-    tell-stands r m q t f l value g =
-        m t f l
-        ∙ sym (rw (sym (h t f l value g) ∙ and-l a b q, sym (k t f l) ∙ and-r a b q)
-        (and-true (mayPlace t (bit placed) e && true) ∙ and-true (mayPlace t (bit placed) e)))
+  module _ {now : ℕ} {a : Bool} (h : TellsGood facts now e (λ t value. readsStated t (bit placed) value e) a) where
+    pub tell-stands : (r : Bool) → Tells facts e (λ t. mayPlace t (bit placed) e) r → a ≡ true → TellsGood facts now e standing r
+    tell-stands r m q t f l value g = m t f l ∙ sym (rw (sym (h t f l value g) ∙ q) (and-true (mayPlace t (bit placed) e)))
 
-    pub tell-falls : (a && b) ≡ false → TellsGood facts now e standing false
-    tell-falls q t f l value g =
-        sym (and-assoc (mayPlace t (bit placed) e) _ _
-        ∙ and-right (mayPlace t (bit placed) e) _
-        (ap₂ (λ (x y : Bool). x && y) (sym (h t f l value g)) (sym (k t f l)) ∙ q))
+    pub tell-falls : a ≡ false → TellsGood facts now e standing false
+    tell-falls q t f l value g = sym (and-right (mayPlace t (bit placed) e) _ (sym (h t f l value g) ∙ q))

@@ -1,6 +1,6 @@
-// The test of a whole order in one pass: each entry is asked, by those placed before it, whether it may stand there. The facts
-// of the table are lent as one array of masks: a table by value would be copied at each call.
-use fact_rows::ENDS;
+// The test of a whole order: the final values are told from its end, and then each entry is asked, by those placed before it,
+// whether it may stand there. The facts of the table are lent as one array of masks: a table by value would be copied at each
+// call.
 use fact_rows::GOOD;
 use fact_rows::GROUND;
 use fact_rows::GUARDS;
@@ -13,6 +13,7 @@ use fact_rows::ROWS;
 use fact_rows::SETS;
 use fact_rows::UNMET;
 use fact_rows::WINDOW;
+use fact_rows::WRONG;
 use masks::has;
 use masks::highest_set;
 use masks::less;
@@ -27,9 +28,9 @@ ghost use lib.ListN.{take};
 ghost use lib.Bits.{bitAnd, bitOr, bitXor};
 ghost use Rattle.masks.specs.Bit.{bit};
 ghost use Rattle.table.specs.Events.{capacity, reads, writes};
+ghost use Rattle.model.specs.Axioms.{finalValues};
 ghost use Rattle.model.specs.Witness.{lawful, witness};
 ghost use Rattle.placing.specs.Guards.{mayRead, mayWrite, mayPlace, readsStated};
-ghost use Rattle.order_facts.specs.Facts.{mayEnd};
 ghost use Rattle.fact_rows.specs.FactRows.{mask, hereRow, rightRow};
 ghost use Rattle.order_test.specs.Testing.{Tells, TellsGood, Judges, Fitting, openBy};
 
@@ -95,14 +96,6 @@ fn may_place(facts: &[[u32; CAPACITY]; ROWS], placed: u32, e: u8) -> bool
     }
 }
 
-// `e` isn't the last writer of its location, or leaves the stated final value.
-fn may_end(facts: &[[u32; CAPACITY]; ROWS], placed: u32, e: u8) -> bool
-    requires { ⌜ e < capacity ⌝ }
-    ensures { λ r. ⌜ Tells (now (facts .entry)) e (λ t. mayEnd t (bit placed) e) r ⌝ }
-{
-    !within(facts[PEERS][e as usize], placed) | has(facts[SETS][ENDS], e as u32)
-}
-
 // The clean order at the front of the array is lawful.
 pub fn is_lawful(facts: &[[u32; CAPACITY]; ROWS], order: &[u8; CAPACITY], len: usize) -> bool
     requires { ⌜ Fitting (now order) len ⌝ }
@@ -121,13 +114,13 @@ pub fn is_lawful(facts: &[[u32; CAPACITY]; ROWS], order: &[u8; CAPACITY], len: u
     true
 }
 
-// `e` may be placed, and the stated values are kept. These are tested first: they are cheap and usually fail.
+// `e` may be placed, and returns its stated value. That is tested first: it is cheap and usually fails.
 fn may_stand(facts: &[[u32; CAPACITY]; ROWS], placed: u32, good: u32, e: u8) -> bool
     requires { ⌜ e < capacity ⌝ }
     ensures { λ r. ⌜ TellsGood (now (facts .entry)) good e
-        (λ t value. mayPlace t (bit placed) e && readsStated t (bit placed) value e && mayEnd t (bit placed) e) r ⌝ }
+        (λ t value. mayPlace t (bit placed) e && readsStated t (bit placed) value e) r ⌝ }
 {
-    if reads_stated(facts, placed, good, e) & may_end(facts, placed, e) {
+    if reads_stated(facts, placed, good, e) {
         may_place(facts, placed, e)
     } else {
         false
@@ -143,12 +136,34 @@ pub fn good_after(facts: &[[u32; CAPACITY]; ROWS], good: u32, e: u8) -> u32
     less(good, facts[HERE][e as usize]) | facts[RIGHT][e as usize]
 }
 
-// The clean order at the front of the array is a witness.
+// The clean order at the front of the array leaves the stated final values. From its end: a writer of a wrong one may
+// not be the last of its location, so that another has to stand behind it.
+fn ends_well(facts: &[[u32; CAPACITY]; ROWS], order: &[u8; CAPACITY], len: usize) -> bool
+    requires { ⌜ Fitting (now order) len ⌝ }
+    ensures { λ r. ⌜ Judges (now (facts .entry)) (take len (now (order .entry))) finalValues r ⌝ }
+{
+    if facts[SETS][UNMET] != 0 {
+        return false;
+    }
+    let mut left = facts[SETS][WRONG];
+    let mut i = len;
+    while (left != 0) & (0 < i) {
+        i -= 1;
+        let e = order[i];
+        if has(left, e as u32) {
+            return false;
+        }
+        left = less(left, facts[PEERS][e as usize]);
+    }
+    true
+}
+
+// The clean order at the front of the array is a witness. The final values are tested first: they often fail at its last entry.
 pub fn is_witness(facts: &[[u32; CAPACITY]; ROWS], order: &[u8; CAPACITY], len: usize) -> bool
     requires { ⌜ Fitting (now order) len ⌝ }
     ensures { λ r. ⌜ Judges (now (facts .entry)) (take len (now (order .entry))) witness r ⌝ }
 {
-    if facts[SETS][UNMET] != 0 {
+    if !ends_well(facts, order, len) {
         return false;
     }
     let mut placed: u32 = 0;

@@ -154,7 +154,7 @@ returns c =
       right = pad-end _ _ _ _ _ (v .right-so-far) l;
       peers = pad-end _ _ _ _ _ (v .peers-so-far) l;
       good = c .words .ensures .0;
-      ends = c .words .ensures .1 .0;
+      wrong = c .words .ensures .1 .0;
       unmet = c .words .ensures .1 .1;
     }
 

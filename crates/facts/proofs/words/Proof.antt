@@ -5,17 +5,17 @@ use Rattle.edition.specs.Limits.{maxLocations}
 use Rattle.table.specs.Events.{event, location}
 use Rattle.table.proofs.EventTests.{ofEvents}
 use Rattle.model.specs.Returns.{initialValue}
-use Rattle.order_facts.specs.Facts.{maskBy, good, ends}
+use Rattle.order_facts.specs.Facts.{maskBy, good, wrong}
 use borrow.Author.Needs.{needs}
 use Rattle.facts.proofs.words.Statement.{statement}
 use Rattle.facts.proofs.words.Tie as tie
 
 abbrev Inv-loop : tie.InvT-loop
-Inv-loop s t good₀ ends₀ e₀ goods mayEnd e =
-    Gathered (good t (initialValue t)) (t .count) e goods × Gathered (ends t) (t .count) e mayEnd
+Inv-loop s t good₀ wrong₀ e₀ goods wrongs e =
+    Gathered (good t (initialValue t)) (t .count) e goods × Gathered (wrong t) (t .count) e wrongs
 
 abbrev μ-loop : tie.MeasureT-loop
-μ-loop s t good₀ ends₀ e₀ good ends e = t .count - e
+μ-loop s t good₀ wrong₀ e₀ good wrong e = t .count - e
 
 -- the event's location has room in the arrays
 located : (c : tie.In-loop Inv-loop μ-loop) → location (c .before .before .args .t1) (c .before .loop .e) < maxLocations
@@ -37,7 +37,7 @@ unfolding location event
 element-copy-out-one-if-2 c = located (c .before .before .before .before .before .before .before .before .before)
 
 loop-again : tie.Need-loop-again Inv-loop μ-loop
-unfolding ofEvents good ends initialValue
+unfolding ofEvents good wrong initialValue
 loop-again c =
     let first = c .before .before .before .before .before .before in
     let d = c .before .before .before .before .before .before .before .before .before .before .before .before .before in

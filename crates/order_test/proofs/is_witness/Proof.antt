@@ -5,7 +5,7 @@ use lib.ListN.{getD, length-take}
 use borrow.Author.Tests.{not-true, not-false}
 use Rattle.table.specs.Events.{capacity}
 use Rattle.model.specs.Witness.{witness}
-use Rattle.order_test.proofs.PassLaws.{Placed, Good, Passing, witnessAt, witness-each, witness-unmet, witness-told}
+use Rattle.order_test.proofs.PassLaws.{Placed, Good, Passing, witnessAt, witness-each, witness-ends, witness-told}
 use Rattle.order_test.proofs.PassLaws.{entry-room, placed-start, placed-more, good-start, good-next}
 use Rattle.order_test.proofs.PassLaws.{pass-start, pass-more, pass-fails, pass-end}
 use borrow.Author.Needs.{needs}
@@ -37,14 +37,13 @@ room c =
     let start = c .before .before .before .before .before .before in
     entry-room (F start) (O start) (N start) (start .pre) _ (c .before .loop-test .taken)
 
-index-1-if1 : tie.Need-index-1-if1 Inv-loop μ-loop
-index-1-if1 c = search needs
-
-index-2-if1 : tie.Need-index-2-if1 Inv-loop μ-loop
-index-2-if1 c = search needs
+ends-well-requires : tie.Need-ends-well-requires Inv-loop μ-loop
+ends-well-requires c κs = c .pre
 
 returns : tie.Need-returns Inv-loop μ-loop
-returns c = let start = c .before .before in witness-unmet (F start) (O start) (N start) (c .if1 .taken)
+returns c =
+    let start = c .before .before in
+    witness-ends (F start) (O start) (N start) _ (c .before .ends-well .ensures) (not-true _ (c .if1 .taken))
 
 index-1-good : tie.Need-index-1-good Inv-loop μ-loop
 index-1-good c = search needs
@@ -72,7 +71,9 @@ returns-2 c =
     let start = k .before .before .before .before .before .before in
     let inv = k .before .before .loop .inv in
     pass-fails (F start) (O start) (N start) witnessAt witness
-    (witness-each (F start) (O start) (N start) (k .before .before .before .before .if1 .left)) (start .pre) _ _
+    (witness-each (F start) (O start) (N start) _ (k .before .before .before .before .before .ends-well .ensures)
+    (not-false _ (k .before .before .before .before .if1 .left)))
+    (start .pre) _ _
     (k .before .loop-test .taken)
     (witness-told (F start) (O start) (N start) (start .pre) _ (k .before .loop-test .taken) _ _ _ (inv .0) (inv .1)
     (c .before .may-stand .ensures))
@@ -111,7 +112,9 @@ returns-3 : tie.Need-returns-3 Inv-loop μ-loop
 returns-3 c =
     let start = c .before .before .before .before .before in
     pass-end (F start) (O start) (N start) witnessAt witness
-    (witness-each (F start) (O start) (N start) (c .before .before .before .if1 .left)) (c .before .loop .i)
+    (witness-each (F start) (O start) (N start) _ (c .before .before .before .before .ends-well .ensures)
+    (not-false _ (c .before .before .before .if1 .left)))
+    (c .before .loop .i)
     (omega (arith, length-take (N start) (O start))) (c .before .loop .inv .2)
 
 pub is-witness-spec : {M : Type 1} → statement M
@@ -120,8 +123,7 @@ is-witness-spec =
     (tie.spec
     Inv-loop
     μ-loop
-    index-1-if1
-    index-2-if1
+    ends-well-requires
     returns
     index-1-good
     index-2-good

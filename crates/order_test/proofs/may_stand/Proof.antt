@@ -6,21 +6,17 @@ use Rattle.order_test.proofs.may_stand.Tie as tie
 reads-stated-requires : tie.Need-reads-stated-requires
 reads-stated-requires c κs = search needs
 
-may-end-requires : tie.Need-may-end-requires
-may-end-requires c κs = search needs
-
 may-place-requires : tie.Need-may-place-requires
 may-place-requires c κs = search needs
 
 returns : tie.Need-returns
 returns c =
-    tell-stands _ _ _ (c .before .before .before .reads-stated .ensures) (c .before .before .may-end .ensures) _
-    (c .may-place .ensures) (c .before .if1 .taken)
+    tell-stands _ _ _ (c .before .before .reads-stated .ensures) _ (c .may-place .ensures) (c .before .if1 .taken)
 
 returns-2 : tie.Need-returns-2
-returns-2 c = tell-falls _ _ _ (c .before .before .reads-stated .ensures) (c .before .may-end .ensures) (c .if1 .left)
+returns-2 c = tell-falls _ _ _ (c .before .reads-stated .ensures) (c .if1 .left)
 
 pub may-stand-spec : {M : Type 1} → statement M
 may-stand-spec =
     tie.close
-    (tie.spec reads-stated-requires may-end-requires may-place-requires returns returns-2)
+    (tie.spec reads-stated-requires may-place-requires returns returns-2)
