@@ -8,7 +8,7 @@ use Rattle.lists.proofs.BoolLaws.{or-off}
 use Rattle.edition.specs.Limits.{maxHarts, maxLocations}
 use Rattle.table.specs.declared.Table.{Table}
 use Rattle.table.specs.Events.{event, hart, location, fencetso}
-use Rattle.refusals.specs.TableLines.{outside, line5, statesMissing, line7, fieldsWrong, fieldOutOfRange}
+use Rattle.refusals.specs.TableLines.{outside, statesMissing, headerWrong, line5, line7, fieldsWrong, fieldOutOfRange}
 use Rattle.refusals.specs.TableLines.{valueNotZero, fenceNotZero, operationOutOfRange, operandNotZero, notApplied}
 
 -- the three counts are in range, where the edition allows so many events
@@ -18,9 +18,9 @@ pub record InRange (most : ℕ) (t : Table) : Type 0 where
   pub events : t .count ≤ most
 
 pub in-range : (most : ℕ) (t : Table) → line5 most t ≡ false → InRange most t
-unfolding line5
+unfolding line5 headerWrong
 in-range most t h =
-    let a = or-off (outside (t .harts) maxHarts || outside (t .locations) maxLocations || outside (t .count) most) (statesMissing t) h in
+    let a = or-off (outside (t .harts) maxHarts || outside (t .locations) maxLocations || outside (t .count) most) (statesMissing (t .stated) (t .locations)) h in
     let b = or-off (outside (t .harts) maxHarts || outside (t .locations) maxLocations) (outside (t .count) most) (a .0) in
     let d = or-off (outside (t .harts) maxHarts) (outside (t .locations) maxLocations) (b .0) in
     record { harts = up-to (t .harts) maxHarts (d .0); locations = up-to (t .locations) maxLocations (d .1); events = up-to (t .count) most (b .1) }
@@ -30,9 +30,9 @@ in-range most t h =
 
 -- nor does line 5 where as many events are allowed as it has
 pub fewer-in-range : (most fewer : ℕ) (t : Table) → line5 most t ≡ false → t .count ≤ fewer → line5 fewer t ≡ false
-unfolding line5
+unfolding line5 headerWrong
 fewer-in-range most fewer t h l =
-    let a = or-off (outside (t .harts) maxHarts || outside (t .locations) maxLocations || outside (t .count) most) (statesMissing t) h in
+    let a = or-off (outside (t .harts) maxHarts || outside (t .locations) maxLocations || outside (t .count) most) (statesMissing (t .stated) (t .locations)) h in
     let b = or-off (outside (t .harts) maxHarts || outside (t .locations) maxLocations) (outside (t .count) most) (a .0) in
     rw (b .0, or-off (eqb (t .count) 0) (ltb most (t .count)) (b .1) .0, le-ltb fewer (t .count) l, a .1) refl
 

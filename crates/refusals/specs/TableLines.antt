@@ -20,24 +20,28 @@ abbrev pub outside : ℕ → ℕ → Bool
 outside n most = eqb n 0 || ltb most n
 
 -- x has a stated final value and isn't in the test
-unfoldable pub missing : Table → ℕ → Bool
-missing t x = bit (t .stated) x && leb (t .locations) x
+unfoldable pub missing : (stated locations : ℕ) → ℕ → Bool
+missing stated locations x = bit stated x && leb locations x
 
 -- "the final mask names a location not in the test"
-unfoldable pub statesMissing : Table → Bool
-statesMissing t = some maxLocations (missing t)
+unfoldable pub statesMissing : (stated locations : ℕ) → Bool
+statesMissing stated locations = some maxLocations (missing stated locations)
 
 -- 5: "harts, locations or events out of range, or the final mask names a location not in the test"
+unfoldable pub headerWrong : (most harts locations events stated : ℕ) → Bool
+headerWrong most harts locations events stated =
+    outside harts maxHarts || outside locations maxLocations || outside events most || statesMissing stated locations
+
 unfoldable pub line5 : (most : ℕ) → Table → Bool
-line5 most t = outside (t .harts) maxHarts || outside (t .locations) maxLocations || outside (t .count) most || statesMissing t
+line5 most t = headerWrong most (t .harts) (t .locations) (t .count) (t .stated)
 
 -- "initial values of locations not in the test"
-unfoldable pub initialNotZero : Table → ℕ → Bool
-initialNotZero t x = leb (t .locations) x && not (eqb (getD (t .initial) x 0) 0)
+unfoldable pub initialNotZero : (locations : ℕ) (initial : List ℕ) → ℕ → Bool
+initialNotZero locations initial x = leb locations x && not (eqb (getD initial x 0) 0)
 
 -- "final values not stated"
-unfoldable pub finalNotZero : Table → ℕ → Bool
-finalNotZero t x = not (bit (t .stated) x) && not (eqb (getD (t .finals) x 0) 0)
+unfoldable pub finalNotZero : (stated : ℕ) (finals : List ℕ) → ℕ → Bool
+finalNotZero stated finals x = not (bit stated x) && not (eqb (getD finals x 0) 0)
 
 -- every field of the record is zero
 unfoldable pub blank : Event → Bool
@@ -51,7 +55,9 @@ pastNotBlank t k = leb (t .count) k && not (blank (event t k))
 
 -- 6, of the table: a value or record that the test doesn't use isn't zero
 unfoldable pub line6 : Table → Bool
-line6 t = some maxLocations (initialNotZero t) || some maxLocations (finalNotZero t) || some capacity (pastNotBlank t)
+line6 t =
+    some maxLocations (initialNotZero (t .locations) (t .initial)) || some maxLocations (finalNotZero (t .stated) (t .finals))
+    || some capacity (pastNotBlank t)
 
 -- 7: "kind, hart, location or flags out of range", in a test with so many harts and locations
 unfoldable pub fieldOutOfRange : ℕ → ℕ → Event → Bool

@@ -15,7 +15,7 @@ use Rattle.refusals.specs.Lines.{Refused, accepted, byLine, byRecord, whole, fi
 use Rattle.refusals.proofs.LineLaws.{whole-here, whole-next}
 use Rattle.refusals.proofs.PassedLaws.{refused-first, passed-first, unless-refused}
 use Rattle.refusals.proofs.TablePassed.{fewer-passed}
-use Rattle.refusals.specs.TableLines.{line5, tableLines}
+use Rattle.refusals.specs.TableLines.{headerWrong, line5, tableLines}
 use Rattle.block.specs.Reading.{readingLines, readRefusal, readTable, noTable}
 use Rattle.block.proofs.ReadingLaws.{passed-header, passed-edition}
 use Rattle.zero_bytes.specs.ZeroBytes.{bytesNotZero}
@@ -57,7 +57,7 @@ few-passed s ok h =
 
 -- it has none: line 5 holds
 too-many : (most : ℕ) (t : Table) → ltb most (t .count) ≡ true → line5 most t ≡ true
-unfolding line5
+unfolding line5 headerWrong
 too-many most t h = simp (or-true, h) refl
 
 -- the writer's refusal of a table that fits the buffer

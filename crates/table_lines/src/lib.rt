@@ -111,10 +111,15 @@ pub fn refuse(t: Table, most: usize, extra: bool) -> Refusal
     requires { ⌜ most ≤ capacity ⌝ }
     ensures { λ r. ⌜ refusalOf r ≡ firstLine (t .count) (tableLines most extra t) ⌝ }
 {
-    if whole_lines::line5(t, most) {
+    if whole_lines::line5(most, t.harts, t.locations, t.count, t.stated) {
         return Refusal::Line(5);
     }
-    if extra | whole_lines::line6(t) {
+    let initial = t.initial;
+    let finals = t.finals;
+    let unused = whole_lines::initial_not_zero(t.locations, initial)
+        | whole_lines::final_not_zero(t.stated, finals)
+        | whole_lines::past_not_blank(t);
+    if extra | unused {
         return Refusal::Line(6);
     }
     refuse_records(t)

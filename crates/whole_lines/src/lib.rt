@@ -1,6 +1,8 @@
-// Lines 5, 6 and 11: tests of the whole table.
+// Lines 5, 6 and 11: tests of the whole table. What looks at the header alone takes its fields: a table by value is copied at each
+// call.
 use edition::EditionOne;
 use table::Event;
+use table::LOCATIONS;
 use table::Table;
 ghost use Prim.Native.Nat.{_≤_, _<_};
 ghost use mathlib.Core.Path.{_≡_};
@@ -9,14 +11,14 @@ ghost use lib.Dec.{leb};
 ghost use Rattle.lists.specs.Below.{some};
 ghost use Rattle.edition.specs.Limits.{maxLocations};
 ghost use Rattle.table.specs.Events.{capacity, memory};
-ghost use Rattle.refusals.specs.TableLines.{outside, statesMissing, line5, initialNotZero, finalNotZero, blank, pastNotBlank, line6, line11};
+ghost use Rattle.refusals.specs.TableLines.{statesMissing, headerWrong, initialNotZero, finalNotZero, blank, pastNotBlank, line11};
 
-fn states_missing(t: Table) -> bool
-    ensures { λ r. ⌜ r ≡ statesMissing t ⌝ }
+fn states_missing(stated: u8, locations: u8) -> bool
+    ensures { λ r. ⌜ r ≡ statesMissing stated locations ⌝ }
 {
     let mut x: u8 = 0;
-    while (x as usize) < table::LOCATIONS {
-        if masks::has(t.stated as u32, x as u32) & (t.locations <= x) {
+    while (x as usize) < LOCATIONS {
+        if masks::has(stated as u32, x as u32) & (locations <= x) {
             return true;
         }
         x += 1;
@@ -25,21 +27,22 @@ fn states_missing(t: Table) -> bool
 }
 
 // `most` is the number of events that the edition allows.
-pub fn line5(t: Table, most: usize) -> bool
-    ensures { λ r. ⌜ r ≡ line5 most t ⌝ }
+pub fn line5(most: usize, harts: u8, locations: u8, events: u8, stated: u8) -> bool
+    ensures { λ r. ⌜ r ≡ headerWrong most harts locations events stated ⌝ }
 {
-    refusals::outside(t.harts, EditionOne::HARTS)
-        | refusals::outside(t.locations, EditionOne::LOCATIONS)
-        | refusals::outside(t.count, most)
-        | states_missing(t)
+    refusals::outside(harts, EditionOne::HARTS)
+        | refusals::outside(locations, EditionOne::LOCATIONS)
+        | refusals::outside(events, most)
+        | states_missing(stated, locations)
 }
 
-fn initial_not_zero(t: Table) -> bool
-    ensures { λ r. ⌜ r ≡ some maxLocations (initialNotZero t) ⌝ }
+// Line 6 is this and the next two.
+pub fn initial_not_zero(locations: u8, initial: [u16; LOCATIONS]) -> bool
+    ensures { λ r. ⌜ r ≡ some maxLocations (initialNotZero locations initial) ⌝ }
 {
     let mut x: u8 = 0;
-    while (x as usize) < table::LOCATIONS {
-        if (t.locations <= x) & (t.initial[x as usize] != 0) {
+    while (x as usize) < LOCATIONS {
+        if (locations <= x) & (initial[x as usize] != 0) {
             return true;
         }
         x += 1;
@@ -47,12 +50,12 @@ fn initial_not_zero(t: Table) -> bool
     false
 }
 
-fn final_not_zero(t: Table) -> bool
-    ensures { λ r. ⌜ r ≡ some maxLocations (finalNotZero t) ⌝ }
+pub fn final_not_zero(stated: u8, finals: [u16; LOCATIONS]) -> bool
+    ensures { λ r. ⌜ r ≡ some maxLocations (finalNotZero stated finals) ⌝ }
 {
     let mut x: u8 = 0;
-    while (x as usize) < table::LOCATIONS {
-        if !masks::has(t.stated as u32, x as u32) & (t.finals[x as usize] != 0) {
+    while (x as usize) < LOCATIONS {
+        if !masks::has(stated as u32, x as u32) & (finals[x as usize] != 0) {
             return true;
         }
         x += 1;
@@ -76,7 +79,7 @@ fn blank(e: Event) -> bool
         & (e.operand == 0)
 }
 
-fn past_not_blank(t: Table) -> bool
+pub fn past_not_blank(t: Table) -> bool
     ensures { λ r. ⌜ r ≡ some capacity (pastNotBlank t) ⌝ }
 {
     let mut k: u8 = 0;
@@ -89,29 +92,16 @@ fn past_not_blank(t: Table) -> bool
     false
 }
 
-pub fn line6(t: Table) -> bool
-    ensures { λ r. ⌜ r ≡ line6 t ⌝ }
-{
-    initial_not_zero(t) | final_not_zero(t) | past_not_blank(t)
-}
-
-fn some_memory(t: Table) -> bool
-    requires { ⌜ t .count ≤ capacity ⌝ }
-    ensures { λ r. ⌜ r ≡ some (t .count) (memory t) ⌝ }
-{
-    let mut k: u8 = 0;
-    while k < t.count {
-        if table::memory(t.events[k as usize]) {
-            return true;
-        }
-        k += 1;
-    }
-    false
-}
-
 pub fn line11(t: Table) -> bool
     requires { ⌜ t .count ≤ capacity ⌝ }
     ensures { λ r. ⌜ r ≡ line11 t ⌝ }
 {
-    !some_memory(t)
+    let mut k: u8 = 0;
+    while k < t.count {
+        if table::memory(t.events[k as usize]) {
+            return false;
+        }
+        k += 1;
+    }
+    true
 }

@@ -44,7 +44,9 @@ blank-is e h =
 past-blank : (t : Table) (k : ℕ) → line6 t ≡ false → t .count ≤ k → k < capacity → event t k ≡ noEvent
 unfolding line6 pastNotBlank
 past-blank t k h l m =
-    let off = or-off (some maxLocations (initialNotZero t) || some maxLocations (finalNotZero t)) (some capacity (pastNotBlank t)) h .1 in
+    let initial = some maxLocations (initialNotZero (t .locations) (t .initial)) in
+    let finals = some maxLocations (finalNotZero (t .stated) (t .finals)) in
+    let off = or-off (initial || finals) (some capacity (pastNotBlank t)) h .1 in
     let e = none-at capacity (pastNotBlank t) k off m in
     blank-is (event t k) (not-false _ (rw (le-leb (t .count) k l) at e))
 

@@ -1,8 +1,9 @@
-use mathlib.Core.Path.{sym, _∙_}
+use mathlib.Core.Path.{_≡_, sym, _∙_}
+use mathlib.Core.Bool.{false}
 use native.Mathlib.Omega.{arith}
 use Rattle.refusals.proofs.InRange.{in-range}
 use Rattle.refusals.proofs.LineLaws.{whole-here, whole-next}
-use Rattle.refusals.specs.TableLines.{tableLines, line5}
+use Rattle.refusals.specs.TableLines.{tableLines, line5, line6}
 use borrow.Author.Needs.{needs}
 use Rattle.table_lines.proofs.refuse.Statement.{statement}
 use Rattle.table_lines.proofs.refuse.Tie as tie
@@ -11,28 +12,51 @@ line5-requires : tie.Need-line5-requires
 line5-requires c κs = search needs
 
 returns : tie.Need-returns
-unfolding tableLines
+unfolding tableLines line5
 returns c = whole-here _ _ _ _ (sym (c .before .line5 .ensures) ∙ c .if1 .taken)
 
-line6-requires : tie.Need-line6-requires
-line6-requires c κs = search needs
+initial-not-zero-requires : tie.Need-initial-not-zero-requires
+initial-not-zero-requires c κs = search needs
+
+final-not-zero-requires : tie.Need-final-not-zero-requires
+final-not-zero-requires c κs = search needs
+
+past-not-blank-requires : tie.Need-past-not-blank-requires
+past-not-blank-requires c κs = search needs
+
+-- line 5 doesn't hold
+past5 : (c : tie.Else1) → line5 (c .before .before .args .most) (c .before .before .args .t) ≡ false
+unfolding line5
+past5 c = sym (c .before .line5 .ensures) ∙ c .if1 .left
 
 returns-2 : tie.Need-returns-2
-unfolding tableLines
+unfolding tableLines line6
 returns-2 c =
-    whole-next _ _ _ _ _ (sym (c .before .before .before .line5 .ensures) ∙ c .before .before .if1 .left)
-    (whole-here _ _ _ _ (rw (c .before .line6 .ensures) at (c .if2 .taken)))
+    whole-next _ _ _ _ _ (past5 (c .before .before .before .before .before .before))
+    (whole-here _ _ _ _
+    (rw (c .before .before .before .initial-not-zero .ensures, c .before .before .final-not-zero .ensures, c .before .past-not-blank .ensures) at (c .if2 .taken)))
 
 refuse-records-requires : tie.Need-refuse-records-requires
-refuse-records-requires c κs = omega (arith, in-range _ _ (sym (c .before .before .before .line5 .ensures) ∙ c .before .before .if1 .left))
+refuse-records-requires c κs = omega (arith, in-range _ _ (past5 (c .before .before .before .before .before .before)))
 
 returns-3 : tie.Need-returns-3
-unfolding tableLines
+unfolding tableLines line6
 returns-3 c =
-    whole-next _ _ _ _ _ (sym (c .before .before .before .before .line5 .ensures) ∙ c .before .before .before .if1 .left)
-    (whole-next _ _ _ _ _ (rw (c .before .before .line6 .ensures) at (c .before .if2 .left)) (c .refuse-records .ensures))
+    let d = c .before in
+    whole-next _ _ _ _ _ (past5 (d .before .before .before .before .before .before))
+    (whole-next _ _ _ _ _
+    (rw (d .before .before .before .initial-not-zero .ensures, d .before .before .final-not-zero .ensures, d .before .past-not-blank .ensures) at (d .if2 .left))
+    (c .refuse-records .ensures))
 
 pub refuse-spec : {M : Type 1} → statement M
 refuse-spec =
     tie.close
-    (tie.spec line5-requires returns line6-requires returns-2 refuse-records-requires returns-3)
+    (tie.spec
+    line5-requires
+    returns
+    initial-not-zero-requires
+    final-not-zero-requires
+    past-not-blank-requires
+    returns-2
+    refuse-records-requires
+    returns-3)

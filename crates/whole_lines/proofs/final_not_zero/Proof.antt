@@ -9,10 +9,10 @@ use Rattle.whole_lines.proofs.final_not_zero.Statement.{statement}
 use Rattle.whole_lines.proofs.final_not_zero.Tie as tie
 
 abbrev Inv-loop : tie.InvT-loop
-Inv-loop t x₀ x = Scanned (finalNotZero t) maxLocations x
+Inv-loop stated finals x₀ x = Scanned (finalNotZero stated finals) maxLocations x
 
 abbrev μ-loop : tie.MeasureT-loop
-μ-loop t x₀ x = maxLocations - x
+μ-loop stated finals x₀ x = maxLocations - x
 
 loop-holds : tie.Need-loop-holds Inv-loop μ-loop
 loop-holds c = scan-start _ _
@@ -23,9 +23,6 @@ cast-loop c = search needs
 cast-has : tie.Need-cast-has Inv-loop μ-loop
 cast-has c = search needs
 
-cast-has-2 : tie.Need-cast-has-2 Inv-loop μ-loop
-cast-has-2 c = search needs
-
 has-requires : tie.Need-has-requires Inv-loop μ-loop
 has-requires c κs = search needs
 
@@ -35,12 +32,12 @@ cast-if1 c = search needs
 mul-if1 : tie.Need-mul-if1 Inv-loop μ-loop
 mul-if1 c = search needs
 
-element-copy-out-if1 : tie.Need-element-copy-out-if1 Inv-loop μ-loop
-element-copy-out-if1 c = search needs
+array-read-if1 : tie.Need-array-read-if1 Inv-loop μ-loop
+array-read-if1 c = search needs
 
 returns : tie.Need-returns Inv-loop μ-loop
 unfolding finalNotZero
-returns c = sym (some-hit _ _ _ (c .before .before .before .before .loop .inv) (omega arith) (rw (c .before .before .has .ensures) at (c .if1 .taken)))
+returns c = sym (some-hit _ _ _ (c .before .before .before .loop .inv) (omega arith) (rw (c .before .has .ensures) at (c .if1 .taken)))
 
 add-x : tie.Need-add-x Inv-loop μ-loop
 add-x c = search needs
@@ -50,7 +47,7 @@ loop-less c = search needs
 
 loop-again : tie.Need-loop-again Inv-loop μ-loop
 unfolding finalNotZero
-loop-again c = scan-more _ _ _ (c .before .before .before .before .loop .inv) (omega arith) (rw (c .before .before .has .ensures) at (c .if1 .left))
+loop-again c = scan-more _ _ _ (c .before .before .before .loop .inv) (omega arith) (rw (c .before .has .ensures) at (c .if1 .left))
 
 returns-2 : tie.Need-returns-2 Inv-loop μ-loop
 returns-2 c = sym (some-end _ _ _ (c .before .loop .inv) (omega arith))
@@ -64,11 +61,10 @@ final-not-zero-spec =
     loop-holds
     cast-loop
     cast-has
-    cast-has-2
     has-requires
     cast-if1
     mul-if1
-    element-copy-out-if1
+    array-read-if1
     returns
     add-x
     loop-less

@@ -9,10 +9,10 @@ use Rattle.whole_lines.proofs.initial_not_zero.Statement.{statement}
 use Rattle.whole_lines.proofs.initial_not_zero.Tie as tie
 
 abbrev Inv-loop : tie.InvT-loop
-Inv-loop t x₀ x = Scanned (initialNotZero t) maxLocations x
+Inv-loop locations initial x₀ x = Scanned (initialNotZero locations initial) maxLocations x
 
 abbrev μ-loop : tie.MeasureT-loop
-μ-loop t x₀ x = maxLocations - x
+μ-loop locations initial x₀ x = maxLocations - x
 
 loop-holds : tie.Need-loop-holds Inv-loop μ-loop
 loop-holds c = scan-start _ _
@@ -26,12 +26,12 @@ cast-if1 c = search needs
 mul-if1 : tie.Need-mul-if1 Inv-loop μ-loop
 mul-if1 c = search needs
 
-element-copy-out-if1 : tie.Need-element-copy-out-if1 Inv-loop μ-loop
-element-copy-out-if1 c = search needs
+array-read-if1 : tie.Need-array-read-if1 Inv-loop μ-loop
+array-read-if1 c = search needs
 
 returns : tie.Need-returns Inv-loop μ-loop
 unfolding initialNotZero
-returns c = sym (some-hit _ _ _ (c .before .before .before .loop .inv) (omega arith) (c .if1 .taken))
+returns c = sym (some-hit _ _ _ (c .before .before .loop .inv) (omega arith) (c .if1 .taken))
 
 add-x : tie.Need-add-x Inv-loop μ-loop
 add-x c = search needs
@@ -41,7 +41,7 @@ loop-less c = search needs
 
 loop-again : tie.Need-loop-again Inv-loop μ-loop
 unfolding initialNotZero
-loop-again c = scan-more _ _ _ (c .before .before .before .loop .inv) (omega arith) (c .if1 .left)
+loop-again c = scan-more _ _ _ (c .before .before .loop .inv) (omega arith) (c .if1 .left)
 
 returns-2 : tie.Need-returns-2 Inv-loop μ-loop
 returns-2 c = sym (some-end _ _ _ (c .before .loop .inv) (omega arith))
@@ -56,7 +56,7 @@ initial-not-zero-spec =
     cast-loop
     cast-if1
     mul-if1
-    element-copy-out-if1
+    array-read-if1
     returns
     add-x
     loop-less

@@ -1,4 +1,4 @@
-use Rattle.refusals.specs.TableLines.{line5}
+use Rattle.refusals.specs.TableLines.{headerWrong}
 use mathlib.Core.Path.{ap₂}
 use mathlib.Core.Bool.{_||_}
 use borrow.Author.Needs.{needs}
@@ -18,7 +18,7 @@ states-missing-requires : tie.Need-states-missing-requires
 states-missing-requires c κs = search needs
 
 returns : tie.Need-returns
-unfolding line5
+unfolding headerWrong
 returns c = ap₂ _||_ (ap₂ _||_ (ap₂ _||_ (c .before .before .before .outside .ensures) (c .before .before .outside2 .ensures)) (c .before .outside3 .ensures)) (c .states-missing .ensures)
 
 pub line5-spec : {M : Type 1} → statement M

@@ -9,10 +9,10 @@ use Rattle.whole_lines.proofs.states_missing.Statement.{statement}
 use Rattle.whole_lines.proofs.states_missing.Tie as tie
 
 abbrev Inv-loop : tie.InvT-loop
-Inv-loop t x₀ x = Scanned (missing t) maxLocations x
+Inv-loop stated locations x₀ x = Scanned (missing stated locations) maxLocations x
 
 abbrev μ-loop : tie.MeasureT-loop
-μ-loop t x₀ x = maxLocations - x
+μ-loop stated locations x₀ x = maxLocations - x
 
 loop-holds : tie.Need-loop-holds Inv-loop μ-loop
 loop-holds c = scan-start _ _
@@ -23,15 +23,12 @@ cast-loop c = search needs
 cast-has : tie.Need-cast-has Inv-loop μ-loop
 cast-has c = search needs
 
-cast-has-2 : tie.Need-cast-has-2 Inv-loop μ-loop
-cast-has-2 c = search needs
-
 has-requires : tie.Need-has-requires Inv-loop μ-loop
 has-requires c κs = search needs
 
 returns : tie.Need-returns Inv-loop μ-loop
 unfolding missing statesMissing
-returns c = sym (some-hit _ _ _ (c .before .before .before .before .before .loop .inv) (omega arith) (rw (c .before .before .has .ensures) at (c .if1 .taken)))
+returns c = sym (some-hit _ _ _ (c .before .before .before .loop .inv) (omega arith) (rw (c .before .has .ensures) at (c .if1 .taken)))
 
 add-x : tie.Need-add-x Inv-loop μ-loop
 add-x c = search needs
@@ -41,7 +38,7 @@ loop-less c = search needs
 
 loop-again : tie.Need-loop-again Inv-loop μ-loop
 unfolding missing statesMissing
-loop-again c = scan-more _ _ _ (c .before .before .before .before .before .loop .inv) (omega arith) (rw (c .before .before .has .ensures) at (c .if1 .left))
+loop-again c = scan-more _ _ _ (c .before .before .before .loop .inv) (omega arith) (rw (c .before .has .ensures) at (c .if1 .left))
 
 returns-2 : tie.Need-returns-2 Inv-loop μ-loop
 unfolding statesMissing
@@ -56,7 +53,6 @@ states-missing-spec =
     loop-holds
     cast-loop
     cast-has
-    cast-has-2
     has-requires
     returns
     add-x
