@@ -1,42 +1,44 @@
 // Lines 9 and 10: tests of a record against the other records of its hart.
+use masks::lowest_set;
+use masks::one;
 use table::Event;
 use table::EventNo;
 use table::Kind;
 use table::Table;
 ghost use Prim.Native.Nat.{_≤_, _<_};
 ghost use mathlib.Core.Path.{_≡_};
-ghost use mathlib.Core.Bool.{_&&_, _||_, not};
+ghost use mathlib.Core.Bool.{_&&_, not};
+ghost use lib.Bits.{bitOr};
 ghost use lib.Dec.{eqb};
 ghost use Rattle.lists.specs.Below.{some};
 ghost use Rattle.masks.specs.Bit.{bit};
 ghost use Rattle.table.specs.Events.{capacity, writingKind, paired, sameLocation};
 ghost use Rattle.refusals.specs.TableLines.{namesWrongly, dataOfNonWriter, lacksControl, line9, pairedHere, line10};
 
-// One of the event's three masks names event m.
-fn names(e: Event, m: EventNo) -> bool
-    requires { ⌜ m .0 < capacity ⌝ }
-    ensures { λ r. ⌜ r ≡ (bit (e .addr) (m .0) || bit (e .«data») (m .0) || bit (e .ctrl) (m .0)) ⌝ }
+// The events that one of the three masks of `e` names.
+fn named(e: Event) -> u32
+    ensures { λ r. ⌜ r ≡ bitOr (bitOr (e .addr) (e .«data»)) (e .ctrl) ⌝ }
 {
-    let k = m.0 as u32;
-    masks::has(e.addr, k) | masks::has(e.data, k) | masks::has(e.ctrl, k)
+    e.addr | e.data | e.ctrl
 }
 
+// Of the events that one of the three masks of event k names, some isn't earlier on its hart, or is a plain store or a fence.
 fn some_names_wrongly(t: Table, k: EventNo) -> bool
     requires { ⌜ k .0 < capacity ⌝ }
     ensures { λ r. ⌜ r ≡ some capacity (namesWrongly t (k .0)) ⌝ }
 {
     let e = t.events[k.0 as usize];
-    let mut m: u8 = 0;
-    while (m as usize) < table::CAPACITY {
+    let mut left = named(e);
+    while left != 0 {
+        let m = lowest_set(left);
         let z = t.events[m as usize];
-        if names(e, EventNo(m))
-            & (!table::program_order(EventNo(m), z, k, e)
-                | (z.kind == Kind::STORE)
-                | table::fences(z))
+        if !table::program_order(EventNo(m as u8), z, k, e)
+            | (z.kind == Kind::STORE)
+            | table::fences(z)
         {
             return true;
         }
-        m += 1;
+        left = left ^ one(m);
     }
     false
 }
@@ -53,6 +55,9 @@ fn some_lacks_control(t: Table, k: EventNo) -> bool
     ensures { λ r. ⌜ r ≡ some (t .count) (lacksControl t (k .0)) ⌝ }
 {
     let e = t.events[k.0 as usize];
+    if e.ctrl == 0 {
+        return false;
+    }
     let mut j: u8 = 0;
     while j < t.count {
         let z = t.events[j as usize];

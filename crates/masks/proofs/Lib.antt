@@ -11,3 +11,4 @@ pub mod BelowLaws
 pub mod HighestLaws
 pub mod PickLaws
 pub mod SortLaws
+pub mod LeftLaws

@@ -1,4 +1,3 @@
-pub mod LeftLaws
 pub mod TellLaws
 pub mod PassLaws
 pub mod EndLaws

@@ -4,6 +4,8 @@ use Prim.Native.Nat.{_-_}
 use mathlib.Core.Path.{sym}
 use native.Mathlib.Omega.{arith}
 use Rattle.lists.proofs.ScanLaws.{Scanned, scan-start, scan-more, some-hit, some-end}
+use Rattle.lists.proofs.SomeLaws.{some-none}
+use Rattle.dependency_lines.proofs.DependencyLaws.{lacks-none}
 use borrow.Author.Needs.{needs}
 use Rattle.dependency_lines.proofs.some_lacks_control.Statement.{statement}
 use Rattle.dependency_lines.proofs.some_lacks_control.Tie as tie
@@ -22,6 +24,10 @@ mul-e c = search needs
 
 element-copy-out-e : tie.Need-element-copy-out-e Inv-loop μ-loop
 element-copy-out-e c = search needs
+
+returns : tie.Need-returns Inv-loop μ-loop
+unfolding event
+returns c = sym (some-none _ _ (λ j l. lacks-none _ _ j (c .if1 .taken)))
 
 loop-holds : tie.Need-loop-holds Inv-loop μ-loop
 loop-holds c = scan-start _ _
@@ -44,9 +50,9 @@ memory-requires c κs = search needs
 lacks-requires : tie.Need-lacks-requires Inv-loop μ-loop
 lacks-requires c κs = search needs
 
-returns : tie.Need-returns Inv-loop μ-loop
+returns-2 : tie.Need-returns-2 Inv-loop μ-loop
 unfolding lacksControl po hart memory reads writes kind event
-returns c = sym (some-hit _ _ _ (c .before .before .before .before .before .before .loop .inv) (omega arith) (rw (c .before .before .before .program-order .ensures, c .before .before .memory .ensures, c .before .lacks .ensures) at (c .if1 .taken)))
+returns-2 c = sym (some-hit _ _ _ (c .before .before .before .before .before .before .loop .inv) (omega arith) (rw (c .before .before .before .program-order .ensures, c .before .before .memory .ensures, c .before .lacks .ensures) at (c .if2 .taken)))
 
 add-j : tie.Need-add-j Inv-loop μ-loop
 add-j c = search needs
@@ -56,10 +62,10 @@ loop-less c = search needs
 
 loop-again : tie.Need-loop-again Inv-loop μ-loop
 unfolding lacksControl po hart memory reads writes kind event
-loop-again c = scan-more _ _ _ (c .before .before .before .before .before .before .loop .inv) (omega arith) (rw (c .before .before .before .program-order .ensures, c .before .before .memory .ensures, c .before .lacks .ensures) at (c .if1 .left))
+loop-again c = scan-more _ _ _ (c .before .before .before .before .before .before .loop .inv) (omega arith) (rw (c .before .before .before .program-order .ensures, c .before .before .memory .ensures, c .before .lacks .ensures) at (c .if2 .left))
 
-returns-2 : tie.Need-returns-2 Inv-loop μ-loop
-returns-2 c = sym (some-end _ _ _ (c .before .loop .inv) (omega arith))
+returns-3 : tie.Need-returns-3 Inv-loop μ-loop
+returns-3 c = sym (some-end _ _ _ (c .before .loop .inv) (omega arith))
 
 pub some-lacks-control-spec : {M : Type 1} → statement M
 some-lacks-control-spec =
@@ -70,6 +76,7 @@ some-lacks-control-spec =
     cast-e
     mul-e
     element-copy-out-e
+    returns
     loop-holds
     cast-z
     mul-z
@@ -77,8 +84,8 @@ some-lacks-control-spec =
     program-order-requires
     memory-requires
     lacks-requires
-    returns
+    returns-2
     add-j
     loop-less
     loop-again
-    returns-2)
+    returns-3)

@@ -1,18 +1,42 @@
-use Rattle.table.specs.Events.{capacity, po, hart, kind, event}
-use Rattle.refusals.specs.TableLines.{namesWrongly, names}
-use Prim.Native.Nat.{_-_}
-use mathlib.Core.Path.{sym}
+use Prim.Native.Nat.{ℕ, _<_}
+use mathlib.Core.Path.{_≡_, refl, sym, ap, _∙_}
 use native.Mathlib.Omega.{arith}
-use Rattle.lists.proofs.ScanLaws.{Scanned, scan-start, scan-more, some-hit, some-end}
+use Rattle.lists.specs.Below.{some}
+use mathlib.Core.Bool.{_&&_}
+use Rattle.masks.specs.Bit.{bit}
+use Rattle.table.specs.Events.{capacity, po, hart, kind, event}
+use Rattle.refusals.specs.TableLines.{namesWrongly}
+use Rattle.masks.proofs.LeftLaws.{Left, left-lowest, left-hit, left-more, left-less, left-end}
+use Rattle.dependency_lines.proofs.DependencyLaws.{wrongly, wrong-named}
 use borrow.Author.Needs.{needs}
 use Rattle.dependency_lines.proofs.some_names_wrongly.Statement.{statement}
 use Rattle.dependency_lines.proofs.some_names_wrongly.Tie as tie
+use Rattle.dependency_lines.proofs.some_names_wrongly.Reads as reads
+use Rattle.dependency_lines.proofs.some_names_wrongly.Lts as lts
+use Rattle.dependency_lines.proofs.named.Reads as named-reads
+use Rattle.masks.proofs.lowest_set.Reads as lowest-set-reads
+use Rattle.masks.proofs.one.Reads as one-reads
+use Rattle.table.proofs.fences.Reads as fences-reads
+use Rattle.table.proofs.program_order.Reads as program-order-reads
 
 abbrev Inv-loop : tie.InvT-loop
-Inv-loop k t e m₀ m = Scanned (namesWrongly t (k .0)) capacity m
+Inv-loop k t e left₀ left = Left (wrongly t (k .0)) capacity left₀ left
 
 abbrev μ-loop : tie.MeasureT-loop
-μ-loop k t e m₀ m = capacity - m
+μ-loop k t e left₀ left = left
+
+-- the lowest that is left is one of the slots
+lowest : (c : tie.After-lowest-set Inv-loop μ-loop) → c .lowest-set .result < capacity
+lowest c = left-lowest _ _ _ _ _ (c .before .before .loop .inv) (omega arith) (c .lowest-set .ensures) .0
+
+-- the events that are named, as the mask that the loop goes over
+whole : (c : tie.After-named Inv-loop μ-loop) → let a = c .before .before .before .args in
+    some capacity (namesWrongly (a .t1) (a .k .0)) ≡ some capacity (λ m. bit (c .named .result) m && wrongly (a .t1) (a .k .0) m)
+unfolding event
+whole c =
+    let a = c .before .before .before .args in
+    wrong-named (a .t1) (a .k .0)
+    ∙ ap (λ (x : ℕ). some capacity (λ m. bit x m && wrongly (a .t1) (a .k .0) m)) (sym (c .named .ensures))
 
 cast-e : tie.Need-cast-e Inv-loop μ-loop
 cast-e c = search needs
@@ -23,11 +47,14 @@ mul-e c = search needs
 element-copy-out-e : tie.Need-element-copy-out-e Inv-loop μ-loop
 element-copy-out-e c = search needs
 
-loop-holds : tie.Need-loop-holds Inv-loop μ-loop
-loop-holds c = scan-start _ _
+named-requires : tie.Need-named-requires Inv-loop μ-loop
+named-requires c κs = search needs
 
-cast-loop : tie.Need-cast-loop Inv-loop μ-loop
-cast-loop c = search needs
+loop-holds : tie.Need-loop-holds Inv-loop μ-loop
+loop-holds c = (c .named .ok, refl)
+
+lowest-set-requires : tie.Need-lowest-set-requires Inv-loop μ-loop
+lowest-set-requires c κs = search needs
 
 cast-z : tie.Need-cast-z Inv-loop μ-loop
 cast-z c = search needs
@@ -36,10 +63,10 @@ mul-z : tie.Need-mul-z Inv-loop μ-loop
 mul-z c = search needs
 
 element-copy-out-z : tie.Need-element-copy-out-z Inv-loop μ-loop
-element-copy-out-z c = search needs
+element-copy-out-z c = lowest c
 
-names-requires : tie.Need-names-requires Inv-loop μ-loop
-names-requires c κs = search needs
+cast-t19 : tie.Need-cast-t19 Inv-loop μ-loop
+cast-t19 c = omega (arith, lowest (c .before))
 
 program-order-requires : tie.Need-program-order-requires Inv-loop μ-loop
 program-order-requires c κs = search needs
@@ -48,21 +75,30 @@ fences-requires : tie.Need-fences-requires Inv-loop μ-loop
 fences-requires c κs = search needs
 
 returns : tie.Need-returns Inv-loop μ-loop
-unfolding namesWrongly names po hart kind event
-returns c = sym (some-hit _ _ _ (c .before .before .before .before .before .before .before .loop .inv) (omega arith) (rw (c .before .before .before .before .names .ensures, c .before .before .before .program-order .ensures, c .before .fences .ensures) at (c .if1 .taken)))
+unfolding po hart kind event
+returns c =
+    let k = c .before .before .before .before .before in
+    sym (whole (k .before .before .before) ∙ left-hit _ _ _ _ _ (k .before .before .loop .inv) (omega arith) (k .lowest-set .ensures)
+    (rw (c .before .before .before .program-order .ensures, c .before .fences .ensures) at (c .if1 .taken)))
 
-add-m : tie.Need-add-m Inv-loop μ-loop
-add-m c = search needs
+one-requires : tie.Need-one-requires Inv-loop μ-loop
+one-requires c κs = lowest (c .before .before .before .before .before)
 
 loop-less : tie.Need-loop-less Inv-loop μ-loop
-loop-less c = search needs
+loop-less c =
+    let k = c .before .before .before .before .before .before in
+    left-less _ _ _ _ _ (k .before .before .loop .inv) (omega arith) (k .lowest-set .ensures) _ (c .one .ensures)
 
 loop-again : tie.Need-loop-again Inv-loop μ-loop
-unfolding namesWrongly names po hart kind event
-loop-again c = scan-more _ _ _ (c .before .before .before .before .before .before .before .loop .inv) (omega arith) (rw (c .before .before .before .before .names .ensures, c .before .before .before .program-order .ensures, c .before .fences .ensures) at (c .if1 .left))
+unfolding po hart kind event
+loop-again c =
+    let k = c .before .before .before .before .before .before in
+    left-more _ _ _ _ _ (k .before .before .loop .inv) (omega arith) (k .lowest-set .ensures) _ (c .one .ensures)
+    (rw (c .before .before .before .before .program-order .ensures, c .before .before .fences .ensures) at (c .before .if1 .left))
 
 returns-2 : tie.Need-returns-2 Inv-loop μ-loop
-returns-2 c = sym (some-end _ _ _ (c .before .loop .inv) (omega arith))
+returns-2 c =
+    sym (whole (c .before .before) ∙ left-end _ _ _ _ (c .before .loop .inv) (c .loop-test .left))
 
 pub some-names-wrongly-spec : {M : Type 1} → statement M
 some-names-wrongly-spec =
@@ -73,16 +109,17 @@ some-names-wrongly-spec =
     cast-e
     mul-e
     element-copy-out-e
+    named-requires
     loop-holds
-    cast-loop
+    lowest-set-requires
     cast-z
     mul-z
     element-copy-out-z
-    names-requires
+    cast-t19
     program-order-requires
     fences-requires
     returns
-    add-m
+    one-requires
     loop-less
     loop-again
     returns-2)

@@ -3,7 +3,7 @@ use native.Mathlib.Omega.{arith}
 use mathlib.Core.Path.{refl, sym, _∙_}
 use Rattle.table.specs.Events.{capacity}
 use Rattle.order_test.specs.Testing.{openBy}
-use Rattle.order_test.proofs.LeftLaws.{Left, left-lowest, left-hit, left-more, left-less, left-end}
+use Rattle.masks.proofs.LeftLaws.{Left, left-lowest, left-hit, left-more, left-less, left-end}
 use Rattle.order_test.proofs.TellLaws.{tell-barring}
 use borrow.Author.Needs.{needs}
 use Rattle.order_test.proofs.may_write.Statement.{statement}
