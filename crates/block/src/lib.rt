@@ -11,7 +11,7 @@ ghost use lib.ListN.{length};
 ghost use Rattle.edition.specs.Limits.{one, two, blockLength, testLength};
 ghost use Rattle.refusals.specs.Lines.{byLine, unless};
 ghost use Rattle.refusals.specs.Refusals.{refusalOf};
-ghost use Rattle.block.specs.Reading.{noTable, line2, line3, laterCheckWrong, readRefusal, readTable, Reads, ReadsAs};
+ghost use Rattle.block.specs.Reading.{noTable, line2, line3, laterCheckWrong, readRefusal, readTable, ReadsAs};
 
 pub struct Reading {
     pub refusal: Refusal,
@@ -117,11 +117,13 @@ fn read_two(s: &[u8]) -> Reading
     )
 }
 
-// Reading 512 bytes or more: the first 512 have the header.
-fn read_header(s: &[u8]) -> Reading
-    requires { ⌜ blockLength ≤ length (now s) ⌝ }
-    ensures { λ r. ⌜ Reads (now (s .entry)) (refusalOf (r .refusal)) (r .table) ⌝ }
+// Any bytes: the first refusal of 1 to 11, and the table, which is blank if there is one.
+pub fn read(s: &[u8]) -> Reading
+    ensures { λ r. ⌜ (refusalOf (r .refusal) ≡ readRefusal (now (s .entry))) × (r .table ≡ readTable (now (s .entry))) ⌝ }
 {
+    if s.len() < EditionOne::BLOCK {
+        return refused(1);
+    }
     if check_wrong(s) {
         return refused(2);
     }
@@ -135,14 +137,4 @@ fn read_header(s: &[u8]) -> Reading
         return read_two(s);
     }
     refused(4)
-}
-
-// Any bytes: the first refusal of 1 to 11, and the table, which is blank if there is one.
-pub fn read(s: &[u8]) -> Reading
-    ensures { λ r. ⌜ (refusalOf (r .refusal) ≡ readRefusal (now (s .entry))) × (r .table ≡ readTable (now (s .entry))) ⌝ }
-{
-    if s.len() < EditionOne::BLOCK {
-        return refused(1);
-    }
-    read_header(s)
 }

@@ -1,43 +1,61 @@
 // Lines 5 to 11 of the table of refusals, each a test of the table, and the first that holds.
+use masks::lowest_set;
+use masks::one_if;
 use refusals::Refusal;
 use table::EventNo;
 use table::Kind;
 use table::Table;
 ghost use Prim.Native.Nat.{_≤_};
 ghost use mathlib.Core.Path.{_≡_};
-ghost use Rattle.lists.specs.Below.{lowest};
-ghost use Rattle.table.specs.Events.{capacity};
-ghost use Rattle.refusals.specs.Lines.{firstLine};
-ghost use Rattle.refusals.specs.TableLines.{line7, line8, line9, line10, recordLines, tableLines};
+ghost use mathlib.Core.Bool.{not, _||_};
+ghost use mathlib.Core.List.{[], _∷_};
+ghost use lib.Dec.{eqb};
+ghost use Rattle.lists.specs.Below.{lowest, below};
+ghost use Rattle.lists.specs.Lists.{keep};
+ghost use Rattle.masks.specs.MaskOf.{maskOf};
+ghost use Rattle.table.specs.Events.{capacity, kind, sc, memoryMask};
+ghost use Rattle.refusals.specs.Lines.{firstLine, whole, record-of};
+ghost use Rattle.refusals.specs.TableLines.{line7, line8, line9, line10, line11, recordLines, tableLines};
 ghost use Rattle.refusals.specs.Refusals.{refusalOf};
+ghost use Rattle.dependency_lines.proofs.DependencyLaws.{dependsOnNone};
 
-// The lowest record that line 7 refuses; the number of records if none is.
-fn lowest7(t: Table) -> EventNo
-    requires { ⌜ t .count ≤ capacity ⌝ }
-    ensures { λ r. ⌜ r .0 ≡ lowest (t .count) (line7 t) ⌝ }
-{
-    let mut k: u8 = 0;
-    while k < t.count {
-        if record_lines::line7(t.harts, t.locations, t.events[k as usize]) {
-            return EventNo(k);
-        }
-        k += 1;
-    }
-    EventNo(t.count)
+// Masks of the records: those that line 7 refuses, and line 8; those that lines 9 and 10 may refuse; the memory events.
+struct Marks {
+    fields: u32,
+    annotations: u32,
+    // Those that depend on others, and the SCs.
+    related: u32,
+    memory: u32,
 }
 
-fn lowest8(t: Table) -> EventNo
+// One pass for all, as a table by value is copied at each call.
+fn mark_records(t: Table) -> Marks
     requires { ⌜ t .count ≤ capacity ⌝ }
-    ensures { λ r. ⌜ r .0 ≡ lowest (t .count) (line8 t) ⌝ }
+    ensures { λ r. ⌜ r .fields ≡ maskOf (keep (line7 t) (below (t .count))) ⌝ }
+    ensures { λ r. ⌜ r .annotations ≡ maskOf (keep (line8 t) (below (t .count))) ⌝ }
+    ensures { λ r. ⌜ r .related ≡ maskOf (keep (λ k. not (dependsOnNone t k) || eqb (kind t k) sc) (below (t .count))) ⌝ }
+    ensures { λ r. ⌜ r .memory ≡ memoryMask t ⌝ }
 {
+    let mut fields: u32 = 0;
+    let mut annotations: u32 = 0;
+    let mut related: u32 = 0;
+    let mut memory: u32 = 0;
     let mut k: u8 = 0;
     while k < t.count {
-        if record_lines::line8(t.events[k as usize]) {
-            return EventNo(k);
-        }
+        let e = t.events[k as usize];
+        fields = fields | one_if(record_lines::line7(t.harts, t.locations, e), k);
+        annotations = annotations | one_if(record_lines::line8(e), k);
+        let alone = dependency_lines::depends_on_none(e);
+        related = related | one_if(!alone | (e.kind == Kind::SC), k);
+        memory = memory | one_if(table::memory(e), k);
         k += 1;
     }
-    EventNo(t.count)
+    Marks {
+        fields,
+        annotations,
+        related,
+        memory,
+    }
 }
 
 // Most events depend on none, and line 9 holds of none of these: no call, which would copy the table.
@@ -78,19 +96,11 @@ fn lowest10(t: Table) -> EventNo
     EventNo(t.count)
 }
 
-// The first of lines 7 to 11 that holds.
-fn refuse_records(t: Table) -> Refusal
-    requires { ⌜ t .count ≤ capacity ⌝ }
-    ensures { λ r. ⌜ refusalOf r ≡ firstLine (t .count) (recordLines t) ⌝ }
+// The first of lines 9 to 11 that holds, of a table with these memory events.
+fn refuse_related(t: Table, memory: u32) -> Refusal
+    requires { ⌜ (t .count ≤ capacity) × (memory ≡ memoryMask t) ⌝ }
+    ensures { λ r. ⌜ refusalOf r ≡ firstLine (t .count) (record-of 9 (line9 t) ∷ record-of 10 (line10 t) ∷ whole 11 (line11 t) ∷ []) ⌝ }
 {
-    let k7 = lowest7(t);
-    if k7.0 < t.count {
-        return Refusal::Record(7, k7);
-    }
-    let k8 = lowest8(t);
-    if k8.0 < t.count {
-        return Refusal::Record(8, k8);
-    }
     let k9 = lowest9(t);
     if k9.0 < t.count {
         return Refusal::Record(9, k9);
@@ -99,7 +109,28 @@ fn refuse_records(t: Table) -> Refusal
     if k10.0 < t.count {
         return Refusal::Record(10, k10);
     }
-    if whole_lines::line11(t) {
+    if memory == 0 {
+        return Refusal::Line(11);
+    }
+    Refusal::None
+}
+
+// The first of lines 7 to 11 that holds.
+fn refuse_records(t: Table) -> Refusal
+    requires { ⌜ t .count ≤ capacity ⌝ }
+    ensures { λ r. ⌜ refusalOf r ≡ firstLine (t .count) (recordLines t) ⌝ }
+{
+    let marks = mark_records(t);
+    if marks.fields != 0 {
+        return Refusal::Record(7, EventNo(lowest_set(marks.fields) as u8));
+    }
+    if marks.annotations != 0 {
+        return Refusal::Record(8, EventNo(lowest_set(marks.annotations) as u8));
+    }
+    if marks.related != 0 {
+        return refuse_related(t, marks.memory);
+    }
+    if marks.memory == 0 {
         return Refusal::Line(11);
     }
     Refusal::None

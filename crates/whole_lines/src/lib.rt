@@ -1,17 +1,14 @@
-// Lines 5, 6 and 11: tests of the whole table. What looks at the header alone takes its fields: a table by value is copied at each
+// Lines 5 and 6: tests of the whole table. What looks at the header alone takes its fields: a table by value is copied at each
 // call.
 use edition::EditionOne;
 use table::Event;
 use table::LOCATIONS;
 use table::Table;
-ghost use Prim.Native.Nat.{_≤_, _<_};
 ghost use mathlib.Core.Path.{_≡_};
-ghost use mathlib.Core.Bool.{_&&_, _||_, not};
-ghost use lib.Dec.{leb};
 ghost use Rattle.lists.specs.Below.{some};
 ghost use Rattle.edition.specs.Limits.{maxLocations};
-ghost use Rattle.table.specs.Events.{capacity, memory};
-ghost use Rattle.refusals.specs.TableLines.{statesMissing, headerWrong, initialNotZero, finalNotZero, blank, pastNotBlank, line11};
+ghost use Rattle.table.specs.Events.{capacity};
+ghost use Rattle.refusals.specs.TableLines.{statesMissing, headerWrong, initialNotZero, finalNotZero, blank, pastNotBlank};
 
 fn states_missing(stated: u8, locations: u8) -> bool
     ensures { λ r. ⌜ r ≡ statesMissing stated locations ⌝ }
@@ -90,18 +87,4 @@ pub fn past_not_blank(t: Table) -> bool
         k += 1;
     }
     false
-}
-
-pub fn line11(t: Table) -> bool
-    requires { ⌜ t .count ≤ capacity ⌝ }
-    ensures { λ r. ⌜ r ≡ line11 t ⌝ }
-{
-    let mut k: u8 = 0;
-    while k < t.count {
-        if table::memory(t.events[k as usize]) {
-            return false;
-        }
-        k += 1;
-    }
-    true
 }

@@ -1,61 +1,101 @@
-use mathlib.Core.Path.{sym, _∙_}
-use Rattle.refusals.proofs.LineLaws.{whole-here, whole-next, record-here, record-next, none-here}
-use Rattle.refusals.specs.TableLines.{recordLines}
+use mathlib.Core.Path.{_≡_}
+use mathlib.Core.List.{[], _∷_}
+use native.Mathlib.Omega.{arith}
+use Rattle.refusals.specs.Lines.{Refused, firstLine, whole, record-of}
+use Rattle.refusals.specs.TableLines.{line9, line10, line11, recordLines}
+use Rattle.refusals.proofs.LineLaws.{whole-here, whole-next, none-here}
+use Rattle.table_lines.proofs.MarkedLaws.{none-next, marked-next, marked-here, marked-room, none-related, no-memory, some-memory}
 use borrow.Author.Needs.{needs}
 use Rattle.table_lines.proofs.refuse_records.Statement.{statement}
 use Rattle.table_lines.proofs.refuse_records.Tie as tie
 
-lowest7-requires : tie.Need-lowest7-requires
-lowest7-requires c κs = search needs
+mark-records-requires : tie.Need-mark-records-requires
+mark-records-requires c κs = search needs
+
+lowest-set-requires : tie.Need-lowest-set-requires
+lowest-set-requires c κs = search needs
+
+fits7 : tie.Need-cast-t5
+fits7 c =
+    let marked = c .before .before .before in
+    record {
+      fits = omega (arith, c .lowest-set .ensures, marked-room _ _ _ (marked .mark-records .ensures .0) (marked .before .pre) (c .before .if1 .taken));
+    }
 
 returns : tie.Need-returns
 unfolding recordLines
-returns c = record-here _ _ _ _ _ (c .before .before .before .lowest7 .ensures) (c .if1 .taken)
+returns c =
+    let marked = c .before .before .before in
+    marked-here _ _ _ (marked .mark-records .ensures .0) (marked .before .pre) _ _ _ (c .before .if1 .taken) (c .lowest-set .ensures)
 
-lowest8-requires : tie.Need-lowest8-requires
-lowest8-requires c κs = search needs
+lowest-set-requires-2 : tie.Need-lowest-set-requires-2
+lowest-set-requires-2 c κs = search needs
+
+fits8 : tie.Need-cast-t8
+fits8 c =
+    let marked = c .before .before .before .before .before in
+    record {
+      fits = omega (arith, c .lowest-set2 .ensures, marked-room _ _ _ (marked .mark-records .ensures .1 .0) (marked .before .pre) (c .before .if2 .taken));
+    }
 
 returns-2 : tie.Need-returns-2
 unfolding recordLines
-returns-2 c = record-next _ _ _ _ _ _ (c .before .before .before .before .before .before .before .lowest7 .ensures) (c .before .before .before .before .if1 .left) (record-here _ _ _ _ _ (c .before .before .before .lowest8 .ensures) (c .if2 .taken))
+returns-2 c =
+    let past7 = c .before .before .before in
+    let marked = past7 .before .before in
+    marked-next _ _ _ (marked .mark-records .ensures .0) _ _ _ (past7 .if1 .left)
+    (marked-here _ _ _ (marked .mark-records .ensures .1 .0) (marked .before .pre) _ _ _ (c .before .if2 .taken) (c .lowest-set2 .ensures))
 
-lowest9-requires : tie.Need-lowest9-requires
-lowest9-requires c κs = search needs
+refuse-related-requires : tie.Need-refuse-related-requires
+refuse-related-requires c κs = search needs
+
+-- lines 7 and 8 hold of no record
+past8 : (c : tie.Else2) (r : Refused) →
+    (let t = c .before .before .before .before .before .args .t in
+    r ≡ firstLine (t .count) (record-of 9 (line9 t) ∷ record-of 10 (line10 t) ∷ whole 11 (line11 t) ∷ []) →
+    r ≡ firstLine (t .count) (recordLines t))
+unfolding recordLines
+past8 c r h =
+    let past7 = c .before .before in
+    let marked = past7 .before .before in
+    marked-next _ _ _ (marked .mark-records .ensures .0) _ _ _ (past7 .if1 .left)
+    (marked-next _ _ _ (marked .mark-records .ensures .1 .0) _ _ _ (c .if2 .left) h)
 
 returns-3 : tie.Need-returns-3
-unfolding recordLines
-returns-3 c = record-next _ _ _ _ _ _ (c .before .before .before .before .before .before .before .before .before .before .before .lowest7 .ensures) (c .before .before .before .before .before .before .before .before .if1 .left) (record-next _ _ _ _ _ _ (c .before .before .before .before .before .before .before .lowest8 .ensures) (c .before .before .before .before .if2 .left) (record-here _ _ _ _ _ (c .before .before .before .lowest9 .ensures) (c .if3 .taken)))
-
-lowest10-requires : tie.Need-lowest10-requires
-lowest10-requires c κs = search needs
+returns-3 c = past8 (c .before .before .before) _ (c .refuse-related .ensures)
 
 returns-4 : tie.Need-returns-4
-unfolding recordLines
-returns-4 c = record-next _ _ _ _ _ _ (c .before .before .before .before .before .before .before .before .before .before .before .before .before .before .before .lowest7 .ensures) (c .before .before .before .before .before .before .before .before .before .before .before .before .if1 .left) (record-next _ _ _ _ _ _ (c .before .before .before .before .before .before .before .before .before .before .before .lowest8 .ensures) (c .before .before .before .before .before .before .before .before .if2 .left) (record-next _ _ _ _ _ _ (c .before .before .before .before .before .before .before .lowest9 .ensures) (c .before .before .before .before .if3 .left) (record-here _ _ _ _ _ (c .before .before .before .lowest10 .ensures) (c .if4 .taken))))
-
-line11-requires : tie.Need-line11-requires
-line11-requires c κs = search needs
+returns-4 c =
+    let past10 = c .before .before in
+    let past = past10 .before .before in
+    let marked = past .before .before .before .before in
+    let none = none-related _ _ (marked .mark-records .ensures .1 .1 .0) (past10 .if3 .left) in
+    past8 past _
+    (none-next _ _ _ _ _ (none .0) (none-next _ _ _ _ _ (none .1)
+    (whole-here _ _ _ _ (no-memory _ _ (marked .mark-records .ensures .1 .1 .1) (c .if4 .taken)))))
 
 returns-5 : tie.Need-returns-5
-unfolding recordLines
-returns-5 c = record-next _ _ _ _ _ _ (c .before .before .before .before .before .before .before .before .before .before .before .before .before .before .before .before .before .lowest7 .ensures) (c .before .before .before .before .before .before .before .before .before .before .before .before .before .before .if1 .left) (record-next _ _ _ _ _ _ (c .before .before .before .before .before .before .before .before .before .before .before .before .before .lowest8 .ensures) (c .before .before .before .before .before .before .before .before .before .before .if2 .left) (record-next _ _ _ _ _ _ (c .before .before .before .before .before .before .before .before .before .lowest9 .ensures) (c .before .before .before .before .before .before .if3 .left) (record-next _ _ _ _ _ _ (c .before .before .before .before .before .lowest10 .ensures) (c .before .before .if4 .left) (whole-here _ _ _ _ (sym (c .before .line11 .ensures) ∙ c .if5 .taken)))))
-
-returns-6 : tie.Need-returns-6
-unfolding recordLines
-returns-6 c = record-next _ _ _ _ _ _ (c .before .before .before .before .before .before .before .before .before .before .before .before .before .before .before .before .before .lowest7 .ensures) (c .before .before .before .before .before .before .before .before .before .before .before .before .before .before .if1 .left) (record-next _ _ _ _ _ _ (c .before .before .before .before .before .before .before .before .before .before .before .before .before .lowest8 .ensures) (c .before .before .before .before .before .before .before .before .before .before .if2 .left) (record-next _ _ _ _ _ _ (c .before .before .before .before .before .before .before .before .before .lowest9 .ensures) (c .before .before .before .before .before .before .if3 .left) (record-next _ _ _ _ _ _ (c .before .before .before .before .before .lowest10 .ensures) (c .before .before .if4 .left) (whole-next _ _ _ _ _ (sym (c .before .line11 .ensures) ∙ c .if5 .left) (none-here _)))))
+returns-5 c =
+    let past10 = c .before .before in
+    let past = past10 .before .before in
+    let marked = past .before .before .before .before in
+    let none = none-related _ _ (marked .mark-records .ensures .1 .1 .0) (past10 .if3 .left) in
+    past8 past _
+    (none-next _ _ _ _ _ (none .0) (none-next _ _ _ _ _ (none .1)
+    (whole-next _ _ _ _ _ (some-memory _ _ (marked .mark-records .ensures .1 .1 .1) (c .if4 .left)) (none-here _))))
 
 pub refuse-records-spec : {M : Type 1} → statement M
 refuse-records-spec =
     tie.close
     (tie.spec
-    lowest7-requires
+    mark-records-requires
+    lowest-set-requires
+    fits7
     returns
-    lowest8-requires
+    lowest-set-requires-2
+    fits8
     returns-2
-    lowest9-requires
+    refuse-related-requires
     returns-3
-    lowest10-requires
     returns-4
-    line11-requires
-    returns-5
-    returns-6)
+    returns-5)
