@@ -11,13 +11,6 @@ use Rattle.dependency_lines.proofs.DependencyLaws.{wrongly, wrong-named
 use borrow.Author.Needs.{needs}
 use Rattle.dependency_lines.proofs.some_names_wrongly.Statement.{statement}
 use Rattle.dependency_lines.proofs.some_names_wrongly.Tie as tie
-use Rattle.dependency_lines.proofs.some_names_wrongly.Reads as reads
-use Rattle.dependency_lines.proofs.some_names_wrongly.Lts as lts
-use Rattle.dependency_lines.proofs.named.Reads as named-reads
-use Rattle.masks.proofs.lowest_set.Reads as lowest-set-reads
-use Rattle.masks.proofs.one.Reads as one-reads
-use Rattle.table.proofs.fences.Reads as fences-reads
-use Rattle.table.proofs.program_order.Reads as program-order-reads
 
 abbrev Inv-loop : tie.InvT-loop
 Inv-loop k t e left₀ left = Left (wrongly t (k .0)) capacity left₀ left

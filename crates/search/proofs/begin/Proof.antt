@@ -7,10 +7,6 @@ use Rattle.search.proofs.CallLaws.{begins-unclean, begins-cut, begins-a
 use borrow.Author.Needs.{needs}
 use Rattle.search.proofs.begin.Statement.{statement}
 use Rattle.search.proofs.begin.Tie as tie
-use Rattle.search.proofs.begin.Reads as reads
-use Rattle.search.proofs.begin.Lts as lts
-use Rattle.engine.proofs.load.Reads as load-reads
-use Rattle.witness_walk.proofs.follow.Reads as follow-reads
 
 -- the start that was read
 began : (c : tie.After-loaded) → let a = c .before .before .before .before .before .args in

@@ -2,10 +2,6 @@ use Rattle.search.proofs.CallLaws.{replied-always}
 use borrow.Author.Needs.{needs}
 use Rattle.search.proofs.search.Statement.{statement}
 use Rattle.search.proofs.search.Tie as tie
-use Rattle.search.proofs.search.Reads as reads
-use Rattle.search.proofs.search.Lts as lts
-use Rattle.event_sets.proofs.of_table.Reads as of-table-reads
-use Rattle.search.proofs.search_watching.Reads as search-watching-reads
 
 of-table-requires : tie.Need-of-table-requires
 of-table-requires c κs = search needs

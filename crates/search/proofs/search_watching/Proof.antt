@@ -13,15 +13,6 @@ use Rattle.search.proofs.CallLaws.{at-most, mask-small, counted, unlist
 use borrow.Author.Needs.{needs}
 use Rattle.search.proofs.search_watching.Statement.{statement}
 use Rattle.search.proofs.search_watching.Tie as tie
-use Rattle.search.proofs.search_watching.Reads as reads
-use Rattle.search.proofs.search_watching.Lts as lts
-use Rattle.facts.proofs.of_table.Reads as of-table-reads
-use Rattle.precedence.proofs.predecessors.Reads as predecessors-reads
-use Rattle.search.proofs.begin.Reads as begin-reads
-use Rattle.search.proofs.deliver.Reads as deliver-reads
-use Rattle.successors.proofs.successors.Reads as successors-reads
-use Rattle.table.proofs.memory_mask.Reads as memory-mask-reads
-use Rattle.witness_walk.proofs.walk.Reads as walk-reads
 
 -- What is known once the start is read and followed.
 module _ (d : tie.After-begun) where

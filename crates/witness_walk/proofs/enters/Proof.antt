@@ -2,10 +2,6 @@ use mathlib.Core.Path.{refl, sym, _∙_}
 use borrow.Author.Needs.{needs}
 use Rattle.witness_walk.proofs.enters.Statement.{statement}
 use Rattle.witness_walk.proofs.enters.Tie as tie
-use Rattle.witness_walk.proofs.enters.Reads as reads
-use Rattle.witness_walk.proofs.enters.Lts as lts
-use Rattle.masks.proofs.has.Reads as has-reads
-use Rattle.order_test.proofs.reads_stated.Reads as reads-stated-reads
 
 -- src/lib.rt:63:8
 has-requires : tie.Need-has-requires

@@ -7,12 +7,6 @@ use Rattle.witness_walk.proofs.FollowLaws.{Following, follow-start, fol
 use borrow.Author.Needs.{needs}
 use Rattle.witness_walk.proofs.follow.Statement.{statement}
 use Rattle.witness_walk.proofs.follow.Tie as tie
-use Rattle.witness_walk.proofs.follow.Reads as reads
-use Rattle.witness_walk.proofs.follow.Lts as lts
-use Rattle.masks.proofs.mask_if.Reads as mask-if-reads
-use Rattle.masks.proofs.one.Reads as one-reads
-use Rattle.witness_walk.proofs.enters.Reads as enters-reads
-use Rattle.witness_walk.proofs.note_good.Reads as note-good-reads
 
 abbrev Inv-loop : tie.InvT-loop
 Inv-loop facts watched order len can goods₀ placed₀ entered₀ i₀ goods placed entered i =

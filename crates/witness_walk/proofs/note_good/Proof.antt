@@ -3,9 +3,6 @@ use borrow.Author.Tests.{eq-eqb, ne-eqb}
 use borrow.Author.Needs.{needs}
 use Rattle.witness_walk.proofs.note_good.Statement.{statement}
 use Rattle.witness_walk.proofs.note_good.Tie as tie
-use Rattle.witness_walk.proofs.note_good.Reads as reads
-use Rattle.witness_walk.proofs.note_good.Lts as lts
-use Rattle.order_test.proofs.good_after.Reads as good-after-reads
 
 -- src/lib.rt:85:57
 mul-good-after : tie.Need-mul-good-after

@@ -11,18 +11,6 @@ use Rattle.witness_walk.proofs.WalkLaws.{going-found, going-past, going
 use borrow.Author.Needs.{needs}
 use Rattle.witness_walk.proofs.walk.Statement.{statement}
 use Rattle.witness_walk.proofs.walk.Tie as tie
-use Rattle.witness_walk.proofs.walk.Reads as reads
-use Rattle.witness_walk.proofs.walk.Lts as lts
-use Rattle.engine.proofs.past.Reads as past-reads
-use Rattle.masks.proofs.lowest_set.Reads as lowest-set-reads
-use Rattle.masks.proofs.one.Reads as one-reads
-use Rattle.order_test.proofs.is_witness.Reads as is-witness-reads
-use Rattle.ready_events.proofs.place.Reads as place-reads
-use Rattle.ready_events.proofs.take_back.Reads as take-back-reads
-use Rattle.witness_walk.proofs.enters.Reads as enters-reads
-use Rattle.witness_walk.proofs.found.Reads as found-reads
-use Rattle.witness_walk.proofs.note_good.Reads as note-good-reads
-use Rattle.witness_walk.proofs.spent.Reads as spent-reads
 
 abbrev Inv-loop : tie.InvT-loop
 Inv-loop facts pred succ mem watched order₀ goods₀ budget keep₀ masks₀ later₀ last₀ visited₀ order goods keep masks later last visited =
