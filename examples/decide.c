@@ -1,8 +1,10 @@
 /*
- * Decides the test in a file: prints whether the outcome is allowed, and exits with a status that says so.
+ * Decides the test in a file: prints whether the outcome is allowed, and exits with a status that says so. With --pruned it
+ * searches by the engine that gives up early, which visits fewer prefixes.
  *
  *   gcc -std=c11 -O2 -Iinclude -o target/decide examples/decide.c target/staticlib/libcapi.a
  *   target/decide samples/C1.block
+ *   target/decide --pruned samples/C1.block
  */
 #include <cogthunder.h>
 
@@ -16,8 +18,12 @@ enum status { ALLOWED = 0, FORBIDDEN = 1, UNDECIDED = 2, UNUSABLE = 3 };
 
 static const uint64_t DEFAULT_ALLOWANCE = 1000000;
 
+/* An engine: ct_search or ct_search_pruned. */
+typedef uint64_t search_function(const uint8_t *test, size_t test_len, const uint8_t *start, size_t start_len, uint8_t *out,
+                                 size_t out_len, uint64_t allowance);
+
 static const char USAGE[] =
-    "usage: decide FILE [ALLOWANCE]\n"
+    "usage: decide [--pruned] FILE [ALLOWANCE]\n"
     "FILE holds one test: a block of 512 bytes, or three of them in edition 2. At most ALLOWANCE prefixes are visited:\n"
     "1000000, or up to 1000000000.\n"
     "Exit status: 0 allowed, 1 forbidden, 2 undecided, 3 refused or not readable.\n";
@@ -64,11 +70,11 @@ static enum status allowed(uint64_t word, const uint8_t *order)
     return ALLOWED;
 }
 
-static enum status decide(const uint8_t *test, size_t length, uint64_t allowance)
+static enum status decide(search_function *search, const uint8_t *test, size_t length, uint64_t allowance)
 {
     uint8_t order[CT_EVENTS];
     /* The start is empty; its pointer must not be null all the same. */
-    uint64_t word = ct_search(test, length, test, 0, order, sizeof order, allowance);
+    uint64_t word = search(test, length, test, 0, order, sizeof order, allowance);
     switch (CT_CASE(word)) {
     case CT_FOUND:
         return allowed(word, order);
@@ -88,6 +94,12 @@ int main(int count, char **arguments)
     uint8_t test[CT_TEST + 1];
     size_t length = 0;
     uint64_t allowance = DEFAULT_ALLOWANCE;
+    search_function *search = ct_search;
+    if (count > 1 && strcmp(arguments[1], "--pruned") == 0) {
+        search = ct_search_pruned;
+        count--;
+        arguments++;
+    }
     if (count < 2 || count > 3 || (count == 3 && !read_number(arguments[2], &allowance))) {
         fputs(USAGE, stderr);
         return UNUSABLE;
@@ -96,5 +108,5 @@ int main(int count, char **arguments)
         fprintf(stderr, "%s: %s\n", arguments[1], strerror(errno));
         return UNUSABLE;
     }
-    return decide(test, length, allowance);
+    return decide(search, test, length, allowance);
 }

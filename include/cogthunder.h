@@ -176,6 +176,18 @@ uint64_t ct_returns(const uint8_t *test, size_t test_len, const uint8_t *order, 
 uint64_t ct_search(const uint8_t *test, size_t test_len, const uint8_t *start, size_t start_len, uint8_t *out,
                    size_t out_len, uint64_t allowance);
 
+/*
+ * The same search by an engine that gives up early, for tests with many clean prefixes. A clean prefix is spoiled if one of its
+ * readers returns another value than the stated one, whatever follows. This engine visits only the clean prefixes of which no
+ * proper prefix is spoiled, and `allowance`, the number visited and refusal 15 read over these: a spoiled one is visited and may
+ * be a start, and what extends it is refused by 15. Arguments, cases and what is written are those of ct_search.
+ *
+ * From the empty start until none are left, both functions find the same witnesses in the same order. Keep to one of them from
+ * call to call: a start is what an earlier call of the same function wrote.
+ */
+uint64_t ct_search_pruned(const uint8_t *test, size_t test_len, const uint8_t *start, size_t start_len, uint8_t *out,
+                          size_t out_len, uint64_t allowance);
+
 /* How many blocks a suite has; a last part block counts. */
 uint64_t ct_blocks(const uint8_t *suite, size_t suite_len);
 

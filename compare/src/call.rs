@@ -4,7 +4,7 @@ use crate::lent::Room;
 use cogthunder::{Answer, Axiom, Event, Refusal, Rules, Table, Tests, Verdict, Witnesses};
 use oracle::raw::RawTable;
 use oracle::record::RawEvent;
-use oracle::search::MAX_ALLOWANCE;
+use oracle::search::{Engine, MAX_ALLOWANCE};
 use std::fmt;
 use std::ops::Range;
 
@@ -40,6 +40,7 @@ pub enum Entry {
         out: Vec<u8>,
     },
     Search {
+        engine: Engine,
         start: Vec<u8>,
         out: Vec<u8>,
         allowance: u64,
@@ -47,9 +48,14 @@ pub enum Entry {
     Suite(OfSuite),
     /// All witnesses after a start, by the iterator: it is resumed after some search calls with the given allowance.
     Witnesses {
+        engine: Engine,
         start: Vec<u8>,
         allowance: u64,
         steps: usize,
+    },
+    /// All witnesses by the iterators of both engines, from the beginning.
+    BothEngines {
+        allowance: u64,
     },
 }
 
@@ -72,16 +78,46 @@ pub enum OfSuite {
 #[derive(Clone, PartialEq, Eq, Debug)]
 pub enum Reply {
     Good,
-    Refused { number: u8, record: Option<u8> },
+    Refused {
+        number: u8,
+        record: Option<u8>,
+    },
     Broken(Axiom),
     Table(Box<Table>),
     Rules(Rules),
     Searched(Answer),
     Blocks(u64),
     Part(Range<usize>),
-    Test { length: usize, next: u64 },
+    Test {
+        length: usize,
+        next: u64,
+    },
     Tests(Vec<(u64, Range<usize>)>),
-    Witnesses { orders: Vec<Vec<u8>>, visited: u64 },
+    Witnesses(Walked),
+    /// The walks of both engines have the same witnesses; how many prefixes each visited.
+    SameWitnesses {
+        orders: Vec<Vec<u8>>,
+        visited: [u64; 2],
+    },
+    OtherWitnesses([Walked; 2]),
+}
+
+/// The witnesses of a walk to its end, and how many prefixes it visited.
+#[derive(Clone, PartialEq, Eq, Debug)]
+pub struct Walked {
+    pub orders: Vec<Vec<u8>>,
+    pub visited: u64,
+}
+
+impl From<[Walked; 2]> for Reply {
+    fn from(walks: [Walked; 2]) -> Reply {
+        if walks[0].orders != walks[1].orders {
+            return Reply::OtherWitnesses(walks);
+        }
+        let visited = [walks[0].visited, walks[1].visited];
+        let [Walked { orders, .. }, _] = walks;
+        Reply::SameWitnesses { orders, visited }
+    }
 }
 
 /// The reply, the buffer afterwards, and what was altered though it must not be.
@@ -140,14 +176,20 @@ impl Library {
             }
             Entry::Returns { order, out } => cogthunder::returns(bytes, self.first.lend(order), self.second.lend(out))
                 .map_or_else(Reply::from, |()| Reply::Good),
-            Entry::Search { start, out, allowance } => {
-                cogthunder::search(bytes, self.first.lend(start), self.second.lend(out), *allowance)
+            Entry::Search { engine, start, out, allowance } => {
+                let search = match engine {
+                    Engine::First => cogthunder::search,
+                    Engine::Second => cogthunder::search_pruned,
+                };
+                search(bytes, self.first.lend(start), self.second.lend(out), *allowance)
                     .map_or_else(Reply::from, Reply::Searched)
             }
             Entry::Suite(asked) => suite_reply(bytes, asked),
-            Entry::Witnesses { start, allowance, steps } => {
-                walk(bytes, self.first.lend(start), *allowance, *steps).unwrap_or_else(Reply::from)
+            Entry::Witnesses { engine, start, allowance, steps } => {
+                walk(*engine, bytes, self.first.lend(start), *allowance, *steps)
+                    .map_or_else(Reply::from, Reply::Witnesses)
             }
+            Entry::BothEngines { allowance } => both_walks(bytes, *allowance).map_or_else(Reply::from, Reply::from),
         }
     }
 
@@ -172,7 +214,7 @@ impl Entry {
     /// The lists that are lent beside the test, and must stay as they are.
     fn inputs(&self) -> (Option<&[u8]>, Option<&[u8]>) {
         match self {
-            Entry::Read | Entry::Write { .. } | Entry::Suite(_) => (None, None),
+            Entry::Read | Entry::Write { .. } | Entry::Suite(_) | Entry::BothEngines { .. } => (None, None),
             Entry::Verdict { returned, order } => (Some(returned), Some(order)),
             Entry::Rules { returned: list, .. }
             | Entry::Returns { order: list, .. }
@@ -218,20 +260,33 @@ fn place_in(bytes: &[u8], part: &[u8]) -> Range<usize> {
     from..from + part.len()
 }
 
+fn resume<'a>(engine: Engine, test: &'a [u8], start: &[u8]) -> Result<Witnesses<'a>, Refusal> {
+    match engine {
+        Engine::First => Witnesses::resume(test, start),
+        Engine::Second => Witnesses::resume_pruned(test, start),
+    }
+}
+
 /// Walks by the iterator: after some search calls it is thrown away, and another one resumed where it stood.
-fn walk(test: &[u8], start: &[u8], allowance: u64, steps: usize) -> Result<Reply, Refusal> {
+fn walk(engine: Engine, test: &[u8], start: &[u8], allowance: u64, steps: usize) -> Result<Walked, Refusal> {
     let mut orders = Vec::new();
-    let mut walk = Witnesses::resume(test, start)?.allowance(allowance);
+    let mut walk = resume(engine, test, start)?.allowance(allowance);
     for _ in 0..steps {
         match walk.step() {
             Answer::Found { .. } => orders.push(walk.start().to_vec()),
             Answer::Spent { .. } => {}
-            Answer::NoneLeft { .. } => return Ok(Reply::Witnesses { orders, visited: walk.visited() }),
+            Answer::NoneLeft { .. } => return Ok(Walked { orders, visited: walk.visited() }),
         }
     }
-    let mut rest = Witnesses::resume(test, walk.start())?.allowance(allowance);
+    let mut rest = resume(engine, test, walk.start())?.allowance(allowance);
     orders.extend(&mut rest);
-    Ok(Reply::Witnesses { orders, visited: walk.visited() + rest.visited() })
+    Ok(Walked { orders, visited: walk.visited() + rest.visited() })
+}
+
+fn both_walks(test: &[u8], allowance: u64) -> Result<[Walked; 2], Refusal> {
+    let to_the_end = |mut walk: Witnesses| Walked { orders: walk.by_ref().collect(), visited: walk.visited() };
+    let [first, second] = [Witnesses::of(test)?, Witnesses::pruned(test)?];
+    Ok([first, second].map(|walk| to_the_end(walk.allowance(allowance))))
 }
 
 /// The independent program.
@@ -261,10 +316,14 @@ fn reference_reply(call: &Call, buffer: &mut [u8]) -> Reply {
         Entry::Returns { order, .. } => {
             oracle::candidate::write_returned(bytes, order, buffer).map_or_else(Reply::from, |()| Reply::Good)
         }
-        Entry::Search { start, allowance, .. } => oracle::search::search(bytes, start, buffer, *allowance)
+        Entry::Search { engine, start, allowance, .. } => engine
+            .search(bytes, start, buffer, *allowance)
             .map_or_else(Reply::from, |answer| Reply::Searched(same_answer(&answer))),
         Entry::Suite(asked) => reference_suite(bytes, asked),
-        Entry::Witnesses { start, .. } => reference_walk(bytes, start).unwrap_or_else(Reply::from),
+        Entry::Witnesses { engine, start, .. } => {
+            reference_walk(*engine, bytes, start).map_or_else(Reply::from, Reply::Witnesses)
+        }
+        Entry::BothEngines { .. } => reference_walks(bytes).map_or_else(Reply::from, Reply::from),
     }
 }
 
@@ -333,23 +392,32 @@ fn same_answer(answer: &oracle::search::Answer) -> Answer {
 }
 
 /// From witness to witness, to the end.
-fn reference_walk(test: &[u8], start: &[u8]) -> Result<Reply, oracle::table::Refusal> {
+fn reference_walk(engine: Engine, test: &[u8], start: &[u8]) -> Result<Walked, oracle::table::Refusal> {
     use oracle::search::Answer as Other;
     let mut start = start.to_vec();
-    let mut orders = Vec::new();
-    let mut total = 0;
+    let mut walked = Walked { orders: Vec::new(), visited: 0 };
     let mut buffer = [0; oracle::layout::MOST_EVENTS];
     loop {
-        match oracle::search::search(test, &start, &mut buffer, MAX_ALLOWANCE)? {
+        match engine.search(test, &start, &mut buffer, MAX_ALLOWANCE)? {
             Other::Found { visited, order } => {
                 start = buffer[..order.len()].to_vec();
-                orders.push(start.clone());
-                total += visited;
+                walked.orders.push(start.clone());
+                walked.visited += visited;
             }
-            Other::NoneLeft { visited } => return Ok(Reply::Witnesses { orders, visited: total + visited }),
+            Other::NoneLeft { visited } => {
+                walked.visited += visited;
+                return Ok(walked);
+            }
             Other::Spent { .. } => panic!("the tables of walks have fewer prefixes than the largest allowance"),
         }
     }
+}
+
+fn reference_walks(test: &[u8]) -> Result<[Walked; 2], oracle::table::Refusal> {
+    let [first, second] = Engine::ALL.map(|engine| reference_walk(engine, test, &[]));
+    let walks = [first?, second?];
+    assert_eq!(walks[0].orders, walks[1].orders, "the independent program's engines have the same witnesses");
+    Ok(walks)
 }
 
 impl Entry {
@@ -360,12 +428,14 @@ impl Entry {
             Entry::Verdict { .. } => "verdict",
             Entry::Rules { .. } => "rules",
             Entry::Returns { .. } => "returns",
-            Entry::Search { .. } => "search",
+            Entry::Search { engine: Engine::First, .. } => "search",
+            Entry::Search { engine: Engine::Second, .. } => "search_pruned",
             Entry::Suite(OfSuite::Blocks) => "blocks",
             Entry::Suite(OfSuite::Part { .. }) => "part",
             Entry::Suite(OfSuite::Test { .. }) => "test",
             Entry::Suite(OfSuite::Tests) => "tests",
             Entry::Witnesses { .. } => "witnesses",
+            Entry::BothEngines { .. } => "both engines",
         }
     }
 }

@@ -16,23 +16,29 @@ use oracle::generate::walks::any_buffer_length;
 use oracle::layout::*;
 use oracle::litmus;
 use oracle::rules::RULE_COUNT;
-use oracle::search::MAX_ALLOWANCE;
+use oracle::search::{Engine, MAX_ALLOWANCE};
+use oracle::settled::is_spoiled;
 use oracle::table::*;
 
 type Round = fn(&mut Prng, &mut Comparison) -> Result<(), Box<Difference>>;
 
 /// As often as they shall come.
-const ROUNDS: [Round; 20] = [
+const ROUNDS: [Round; 25] = [
     candidates,
     candidates,
     candidates,
     large_searches,
     large_searches,
+    large_searches,
+    small_walk,
     small_walk,
     small_walk,
     small_walk,
     chain_walk,
+    chain_walk,
     witnesses,
+    both_engines,
+    both_engines,
     damaged_table,
     damaged_table,
     damaged_table,
@@ -75,13 +81,18 @@ impl Calls<'_> {
     fn search(
         &mut self,
         prng: &mut Prng,
+        engine: Engine,
         start: Vec<u8>,
         room: usize,
         allowance: u64,
     ) -> Result<Outcome, Box<Difference>> {
         let out = some_bytes(prng, room);
-        self.call(Entry::Search { start, out, allowance })
+        self.call(Entry::Search { engine, start, out, allowance })
     }
+}
+
+fn any_engine(prng: &mut Prng) -> Engine {
+    *prng.pick(&Engine::ALL)
 }
 
 pub fn some_bytes(prng: &mut Prng, length: usize) -> Vec<u8> {
@@ -227,11 +238,12 @@ fn chain_walk(prng: &mut Prng, comparison: &mut Comparison) -> Result<(), Box<Di
 fn walk(prng: &mut Prng, calls: &mut Calls, table: &Table) -> Result<(), Box<Difference>> {
     let memory_events = table.memory_events().len();
     let largest = *prng.pick(&[2, 10, 40, 200]);
+    let engine = any_engine(prng);
     let mut start = Vec::new();
     for _ in 0..1 + prng.below(MOST_CALLS) {
         let room = if prng.one_in(4) { any_buffer_length(prng, memory_events) } else { memory_events };
         let allowance = any_allowance(prng, memory_events, largest);
-        let outcome = calls.search(prng, start.clone(), room, allowance)?;
+        let outcome = calls.search(prng, engine, start.clone(), room, allowance)?;
         match outcome.reply {
             Reply::Searched(Answer::Found { len, .. } | Answer::Spent { len, .. }) => {
                 start = outcome.out[..len].to_vec()
@@ -264,8 +276,8 @@ fn large_searches(prng: &mut Prng, comparison: &mut Comparison) -> Result<(), Bo
 
 fn single_search(prng: &mut Prng, calls: &mut Calls, table: &Table) -> Result<(), Box<Difference>> {
     let memory_events = table.memory_events().len();
-    let mut start = bytes(&any_order(prng, table));
-    start.truncate(prng.below(start.len() + 1));
+    let engine = any_engine(prng);
+    let mut start = bytes(&any_start(prng, table));
     if prng.one_in(4) {
         start = nearly(prng, &start);
     }
@@ -275,8 +287,17 @@ fn single_search(prng: &mut Prng, calls: &mut Calls, table: &Table) -> Result<()
     }
     let room = any_buffer_length(prng, memory_events);
     let allowance = any_allowance(prng, memory_events, 100);
-    calls.search(prng, start, room, allowance)?;
+    calls.search(prng, engine, start, room, allowance)?;
     Ok(())
+}
+
+/// The front of an order: as much as there is before it is spoiled, with the entry that spoils it, with one more, or any part.
+fn any_start(prng: &mut Prng, table: &Table) -> Vec<usize> {
+    let mut order = any_order(prng, table);
+    let any = prng.below(order.len() + 1);
+    let unspoiled = (0..order.len()).take_while(|&last| !is_spoiled(table, &order[..=last])).count();
+    order.truncate(*prng.pick(&[any, any, any, unspoiled, unspoiled + 1, unspoiled + 1, unspoiled + 2]));
+    order
 }
 
 /// All witnesses of a small table by the iterator, from the beginning or from any start.
@@ -287,12 +308,26 @@ fn witnesses(prng: &mut Prng, comparison: &mut Comparison) -> Result<(), Box<Dif
     for _ in 0..SOME_CALLS {
         let mut start = Vec::new();
         if prng.one_in(2) {
-            start = bytes(&any_order(prng, &table));
-            start.truncate(prng.below(start.len() + 1));
+            start = bytes(&any_start(prng, &table));
         }
-        let allowance = *prng.pick(&[0, 1, 2, 7, 50, MAX_ALLOWANCE, u64::MAX]);
-        calls.call(Entry::Witnesses { start, allowance, steps: prng.below(SOME_CALLS) })?;
+        let engine = any_engine(prng);
+        let allowance = any_allowance_of_a_walk(prng);
+        calls.call(Entry::Witnesses { engine, start, allowance, steps: prng.below(SOME_CALLS) })?;
     }
+    Ok(())
+}
+
+fn any_allowance_of_a_walk(prng: &mut Prng) -> u64 {
+    *prng.pick(&[0, 1, 2, 7, 50, MAX_ALLOWANCE, u64::MAX])
+}
+
+/// All witnesses of a table by both engines: of a small one, or of one whose harts are chains.
+fn both_engines(prng: &mut Prng, comparison: &mut Comparison) -> Result<(), Box<Difference>> {
+    let events = 1 + prng.below(FEW_EVENTS);
+    let table = if prng.one_in(8) { chained_table(prng) } else { table_with_outcome(prng, events) };
+    let bytes = any_test(prng, &table);
+    let allowance = any_allowance_of_a_walk(prng);
+    Calls { comparison, bytes }.call(Entry::BothEngines { allowance })?;
     Ok(())
 }
 
@@ -313,7 +348,9 @@ fn every_entry(prng: &mut Prng, calls: &mut Calls, table: &Table) -> Result<(), 
     let start = bytes(&order[..prng.below(order.len() + 1)]);
     // The bytes may hold another table than this one, with more prefixes.
     let allowance = any_allowance(prng, MOST_EVENTS, 100);
-    calls.search(prng, start.clone(), room, allowance)?;
+    for engine in Engine::ALL {
+        calls.search(prng, engine, start.clone(), room, allowance)?;
+    }
     Ok(())
 }
 
@@ -436,6 +473,22 @@ mod tests {
             let is_met = |event: &Event| event.kind == Kind::Amo && event.operation == operation;
             assert!(tables.iter().any(|table| table.events.iter().any(is_met)), "{operation:?}");
         }
+    }
+
+    #[test]
+    fn starts_are_spoiled_and_extend_spoiled_ones() {
+        let mut prng = Prng::new(4);
+        let (mut spoiled, mut extended) = (0, 0);
+        for _ in 0..TABLES {
+            let table = any_shape(&mut prng);
+            let start = any_start(&mut prng, &table);
+            let test = any_test(&mut prng, &table);
+            let search = |engine: Engine| engine.search(&test, &bytes(&start), &mut [0; MOST_EVENTS], 0);
+            let is_listed = search(Engine::Second).is_ok();
+            spoiled += u32::from(is_listed && is_spoiled(&table, &start));
+            extended += u32::from(!is_listed && search(Engine::First).is_ok());
+        }
+        assert!(spoiled > 100 && extended > 100, "{spoiled}, {extended}");
     }
 
     #[test]

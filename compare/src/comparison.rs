@@ -48,7 +48,7 @@ impl fmt::Display for Difference {
 #[cfg(test)]
 mod tests {
     use super::*;
-    use crate::call::{Entry, Library, OfSuite, Reference, Reply};
+    use crate::call::{Entry, Library, OfSuite, Reference, Reply, Walked};
     use crate::cases::round;
     use crate::lent::Room;
     use cogthunder::{Answer, Axiom, Rules};
@@ -56,6 +56,7 @@ mod tests {
     use oracle::generate::prng::Prng;
     use oracle::layout::{BLOCK_LENGTH, CHECK_AT, EVENTS_AT, LONGEST_TEST};
     use oracle::litmus;
+    use oracle::search::Engine;
 
     /// Calls enough to meet the faults below.
     const CALLS: u64 = 20_000;
@@ -101,12 +102,12 @@ mod tests {
     fn a_rule_missing_from_the_set_of_a_pair_is_shown_by_two_events() {
         let found = difference(|_, outcome| {
             if let Reply::Rules(rules) = &mut outcome.reply {
-                *rules = rules.iter().filter(|&rule| rule != 3).collect();
+                *rules = rules.iter().filter(|&rule| rule != 1).collect();
             }
         });
         assert_eq!(found.call.bytes[EVENTS_AT], 2);
         assert!(matches!(found.call.entry, Entry::Rules { a: 0, b: 1, .. }));
-        assert!(matches!(found.reference.reply, Reply::Rules(rules) if rules.contains(3)));
+        assert!(matches!(found.reference.reply, Reply::Rules(rules) if rules.contains(1)));
     }
 
     #[test]
@@ -118,6 +119,30 @@ mod tests {
         });
         assert_eq!(found.call.bytes[EVENTS_AT], 1);
         assert_eq!(found.reference.reply, Reply::Searched(Answer::Spent { len: 0, visited: 0 }));
+    }
+
+    #[test]
+    fn a_spoiled_prefix_that_is_extended_is_shown_by_two_events() {
+        let found = difference(|call, outcome| {
+            if let Entry::Search { engine: Engine::Second, start, out, allowance } = call.entry.clone() {
+                let entry = Entry::Search { engine: Engine::First, start, out, allowance };
+                *outcome = Reference.outcome(&Call { bytes: call.bytes.clone(), entry });
+            }
+        });
+        assert_eq!(found.call.bytes[EVENTS_AT], 2);
+    }
+
+    #[test]
+    fn a_witness_that_one_engine_misses_is_shown_by_one_event() {
+        let found = difference(|_, outcome| {
+            if let Reply::SameWitnesses { orders, visited } = outcome.reply.clone() {
+                let [first, second] = visited.map(|visited| Walked { orders: orders.clone(), visited });
+                let fewer = Walked { orders: orders.into_iter().skip(1).collect(), ..second };
+                outcome.reply = Reply::from([first, fewer]);
+            }
+        });
+        assert_eq!(found.call.bytes[EVENTS_AT], 1);
+        assert!(matches!(found.library.reply, Reply::OtherWitnesses(_)));
     }
 
     #[test]

@@ -1,5 +1,5 @@
-//! The public litmus tests: the stated verdict of each by the library's search, a witness of each allowed outcome by its
-//! verdict.
+//! The public litmus tests: the stated verdict of each by both of the library's engines, a witness of each allowed outcome by
+//! its verdict.
 
 use cogthunder::{returns, verdict, Refusal, Verdict, Witnesses, EVENTS};
 use std::io::{stdin, BufRead};
@@ -26,8 +26,8 @@ pub fn run() -> ExitCode {
         }
     }
     println!(
-        "litmus: {allowed} allowed, each with a first witness that the verdict allows; {forbidden} forbidden, each walked \
-         until none was left; {wrong} not as stated"
+        "litmus: {allowed} allowed, each with a first witness of both engines that the verdict allows; {forbidden} forbidden, \
+         each walked until none was left; {wrong} not as stated"
     );
     if wrong == 0 && allowed + forbidden > 0 {
         ExitCode::SUCCESS
@@ -40,12 +40,16 @@ pub fn run() -> ExitCode {
 enum Outcome {
     Allowed,
     Forbidden,
-    /// The verdict doesn't allow the search's witness.
+    /// The engines have different first witnesses, or the verdict doesn't allow theirs.
     Contradicted,
 }
 
 fn outcome(block: &[u8]) -> Result<Outcome, Refusal> {
-    let Some(order) = Witnesses::of(block)?.next() else {
+    let first = Witnesses::of(block)?.next();
+    if first != Witnesses::pruned(block)?.next() {
+        return Ok(Outcome::Contradicted);
+    }
+    let Some(order) = first else {
         return Ok(Outcome::Forbidden);
     };
     let mut returned = [0; EVENTS];

@@ -6,6 +6,7 @@ use oracle::encode::seal;
 use oracle::layout::*;
 use oracle::raw::RawTable;
 use oracle::record::RawEvent;
+use oracle::search::Engine;
 use oracle::stream::Stream;
 
 /// Takes smaller calls as long as one has the property. Each has fewer events, shorter lists, a smaller number or a
@@ -24,7 +25,7 @@ fn smaller_calls(call: &Call) -> impl Iterator<Item = Call> + '_ {
     let (edition, events) = records(&call.bytes).unwrap_or((Edition::One, 0));
     let without_events = (0..events).filter(move |_| events > 1).map(move |k| without_event(edition, call, k));
     let entries = smaller_entries(&call.entry).into_iter().map(|entry| Call { entry, ..call.clone() });
-    let tests = smaller_tests(&call.bytes).map(|bytes| Call { bytes, ..call.clone() });
+    let tests = smaller_tests(call).map(|bytes| Call { bytes, ..call.clone() });
     without_events.chain(entries).chain(tests)
 }
 
@@ -87,9 +88,13 @@ fn without_event(edition: Edition, call: &Call, k: usize) -> Call {
             Entry::Rules { returned: returned_without(&returned, k), a: renumbered(a, k), b: renumbered(b, k) }
         }
         Entry::Returns { order, out } => Entry::Returns { order: list(&order), out },
-        Entry::Search { start, out, allowance } => Entry::Search { start: list(&start), out, allowance },
-        Entry::Witnesses { start, allowance, steps } => Entry::Witnesses { start: list(&start), allowance, steps },
-        entry @ (Entry::Read | Entry::Write { .. } | Entry::Suite(_)) => entry,
+        Entry::Search { engine, start, out, allowance } => {
+            Entry::Search { engine, start: list(&start), out, allowance }
+        }
+        Entry::Witnesses { engine, start, allowance, steps } => {
+            Entry::Witnesses { engine, start: list(&start), allowance, steps }
+        }
+        entry @ (Entry::Read | Entry::Write { .. } | Entry::Suite(_) | Entry::BothEngines { .. }) => entry,
     };
     Call { bytes, entry }
 }
@@ -154,9 +159,17 @@ fn smaller_entries(entry: &Entry) -> Vec<Entry> {
             entries.extend(shorter(order).map(|order| Entry::Returns { order, out: out.clone() }));
             entries.extend(shorter(out).map(|out| Entry::Returns { order: order.clone(), out }));
         }
-        Entry::Search { start, out, allowance } => entries.extend(smaller_searches(start, out, *allowance)),
-        Entry::Witnesses { start, allowance, steps } => {
-            let with = |start: &[u8], allowance, steps| Entry::Witnesses { start: start.to_vec(), allowance, steps };
+        Entry::Search { engine, start, out, allowance } => {
+            entries.extend(smaller_searches(*engine, start, out, *allowance))
+        }
+        Entry::BothEngines { allowance } => {
+            entries.extend(smaller_numbers(*allowance).map(|allowance| Entry::BothEngines { allowance }))
+        }
+        Entry::Witnesses { engine, start, allowance, steps } => {
+            let with = |start: &[u8], allowance, steps| {
+                let (engine, start) = (*engine, start.to_vec());
+                Entry::Witnesses { engine, start, allowance, steps }
+            };
             entries.extend(shorter(start).map(|start| with(&start, *allowance, *steps)));
             entries.extend(smaller_numbers(*allowance).map(|allowance| with(start, allowance, *steps)));
             entries.extend(smaller_numbers(*steps as u64).map(|steps| with(start, *allowance, steps as usize)));
@@ -173,10 +186,10 @@ fn smaller_asked(asked: &OfSuite) -> Vec<OfSuite> {
     }
 }
 
-fn smaller_searches(start: &[u8], out: &[u8], allowance: u64) -> Vec<Entry> {
+fn smaller_searches(engine: Engine, start: &[u8], out: &[u8], allowance: u64) -> Vec<Entry> {
     let with = |start: &[u8], out: &[u8], allowance| {
         let (start, out) = (start.to_vec(), out.to_vec());
-        Entry::Search { start, out, allowance }
+        Entry::Search { engine, start, out, allowance }
     };
     let starts = shorter(start).map(|start| with(&start, out, allowance));
     let buffers = shorter(out).map(|out| with(start, &out, allowance));
@@ -210,10 +223,11 @@ fn smaller_bytes(bytes: &[u8]) -> impl Iterator<Item = (usize, u8)> + '_ {
     others.flat_map(|(at, &byte)| [(at, 0), (at, byte / 2), (at, byte - 1)])
 }
 
-/// Tests with one byte made smaller, but for their checks; and, of other bytes than a test, the first half of them, all but the
-/// first block, and all but the last byte.
-fn smaller_tests(bytes: &[u8]) -> impl Iterator<Item = Vec<u8>> + '_ {
-    let is_test = edition_of(bytes).is_some();
+/// Tests with one byte made smaller, but for their checks; and, of suites and of other bytes than a test, the first half of
+/// them, all but the first block, and all but the last byte.
+fn smaller_tests(call: &Call) -> impl Iterator<Item = Vec<u8>> + '_ {
+    let bytes = &call.bytes[..];
+    let is_test = edition_of(bytes).is_some() && !matches!(call.entry, Entry::Suite(_));
     let is_check = move |at: usize| is_test && at % BLOCK_LENGTH >= CHECK_AT;
     let changes = smaller_bytes(bytes).filter(move |&(at, _)| !is_check(at));
     let half = &bytes[..bytes.len() / 2];

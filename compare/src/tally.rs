@@ -3,6 +3,7 @@
 use crate::call::{Call, Entry, Outcome, Reply};
 use cogthunder::{Answer, Axiom, Rules};
 use oracle::layout::LONGEST_TEST;
+use oracle::search::Engine;
 use std::collections::BTreeMap;
 use std::fmt;
 
@@ -13,7 +14,9 @@ const TABLE_REFUSALS: [u8; 8] = [1, 5, 6, 7, 8, 9, 10, 11];
 const RULES: std::ops::RangeInclusive<u8> = 1..=13;
 
 const VERDICTS: [&str; 6] = ["allowed", "preserved order", "load value", "atomicity", "value read", "final value"];
-const SEARCHES: [&str; 3] = ["found", "none left", "spent"];
+/// Of the first engine, and of the second.
+const SEARCHES: [[&str; 3]; 2] =
+    [["found", "none left", "spent"], ["pruned found", "pruned none left", "pruned spent"]];
 
 #[derive(Default)]
 pub struct Tally {
@@ -40,8 +43,9 @@ fn verdict_name(axiom: &Axiom) -> &'static str {
     }]
 }
 
-fn search_name(answer: &Answer) -> &'static str {
-    SEARCHES[match answer {
+fn search_name(entry: &Entry, answer: &Answer) -> &'static str {
+    let is_pruned = matches!(entry, Entry::Search { engine: Engine::Second, .. });
+    SEARCHES[usize::from(is_pruned)][match answer {
         Answer::Found { .. } => 0,
         Answer::NoneLeft { .. } => 1,
         Answer::Spent { .. } => 2,
@@ -71,7 +75,7 @@ impl Tally {
             }
             Reply::Rules(rules) => self.count_rules(*rules),
             Reply::Good if call.entry.name() == "verdict" => *self.verdicts.entry(VERDICTS[0]).or_default() += 1,
-            Reply::Searched(answer) => *self.searches.entry(search_name(answer)).or_default() += 1,
+            Reply::Searched(answer) => *self.searches.entry(search_name(&call.entry, answer)).or_default() += 1,
             Reply::Table(_) if call.bytes.len() == LONGEST_TEST => self.good_in_two += 1,
             _ => {}
         }
@@ -89,7 +93,8 @@ impl Tally {
         let refusals = REFUSALS.filter(|n| !self.refusals.contains_key(n)).map(|n| format!("refusal {n}"));
         let rules = RULES.filter(|n| !self.rules.contains_key(n)).map(|n| format!("rule {n}"));
         let verdicts = VERDICTS.iter().filter(|&name| !self.verdicts.contains_key(name)).map(|name| name.to_string());
-        let searches = SEARCHES.iter().filter(|&name| !self.searches.contains_key(name)).map(|name| name.to_string());
+        let searches =
+            SEARCHES.iter().flatten().filter(|&name| !self.searches.contains_key(name)).map(|name| name.to_string());
         let not_written = TABLE_REFUSALS.iter().filter(|&n| !self.not_written.contains_key(n));
         let not_written = not_written.map(|n| format!("refusal {n} of a table"));
         let written = (self.written == 0).then(|| "a table that is written".to_string());

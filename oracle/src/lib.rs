@@ -12,6 +12,7 @@ pub mod readings;
 pub mod record;
 pub mod rules;
 pub mod search;
+pub mod settled;
 pub mod stream;
 pub mod suite;
 pub mod table;

@@ -1,6 +1,7 @@
-//! The search: the list of clean prefixes greater than a start, and the first witness in it.
+//! The search by either engine: its list of prefixes greater than a start, and the first witness in it.
 
 use crate::rules::{is_witness, steady_rules};
+use crate::settled::is_spoiled;
 use crate::table::{read, refuse_if, Line, Refusal, Table};
 use std::ops::ControlFlow;
 
@@ -16,40 +17,72 @@ pub enum Answer {
     Spent { visited: u64, prefix: Vec<usize> },
 }
 
-/// "Found writes the order; spent writes the last prefix visited; bytes past it stay; none
-/// left writes nothing."
-pub fn search(
-    block: &[u8],
-    start: &[u8],
-    buffer: &mut [u8],
-    allowance: u64,
-) -> Result<Answer, Refusal> {
-    let table = read(block)?;
-    let start: Vec<usize> = start.iter().map(|&event| event.into()).collect();
-    let prefixes = Prefixes::of(&table);
-    refuse_if(!prefixes.is_clean(&start), Line::Start)?;
-    refuse_if(buffer.len() < table.memory_events().len(), Line::Buffer)?;
-    refuse_if(allowance > MAX_ALLOWANCE, Line::Allowance)?;
-    let answer = Search::new(&table, &start, allowance).run(&prefixes);
-    if let Answer::Found { order: list, .. } | Answer::Spent { prefix: list, .. } = &answer {
-        for (byte, &event) in buffer.iter_mut().zip(list) {
-            *byte = event as u8;
-        }
-    }
-    Ok(answer)
+/// "The first engine follows an order after a load has read the wrong value. Build a second
+/// beside it."
+#[derive(Clone, Copy, PartialEq, Eq, Debug)]
+pub enum Engine {
+    /// It visits every clean prefix.
+    First,
+    /// It "visits only those clean prefixes none of whose proper prefixes is spoiled".
+    Second,
 }
 
-/// What makes a table's prefixes clean: the memory events, each with its steady predecessors.
-struct Prefixes {
+impl Engine {
+    pub const ALL: [Engine; 2] = [Engine::First, Engine::Second];
+
+    /// "Found writes the order; spent writes the last prefix visited; bytes past it stay; none
+    /// left writes nothing."
+    pub fn search(
+        self,
+        block: &[u8],
+        start: &[u8],
+        buffer: &mut [u8],
+        allowance: u64,
+    ) -> Result<Answer, Refusal> {
+        let table = read(block)?;
+        let start: Vec<usize> = start.iter().map(|&event| event.into()).collect();
+        let prefixes = Prefixes::of(&table, self);
+        refuse_if(!prefixes.is_listed(&start), Line::Start)?;
+        refuse_if(buffer.len() < table.memory_events().len(), Line::Buffer)?;
+        refuse_if(allowance > MAX_ALLOWANCE, Line::Allowance)?;
+        let answer = Search::new(&table, &start, allowance).run(&prefixes);
+        if let Answer::Found { order: list, .. } | Answer::Spent { prefix: list, .. } = &answer {
+            for (byte, &event) in buffer.iter_mut().zip(list) {
+                *byte = event as u8;
+            }
+        }
+        Ok(answer)
+    }
+}
+
+/// What decides which prefixes of a table an engine lists: the memory events, each with its
+/// steady predecessors, and whether spoiled prefixes are extended.
+struct Prefixes<'a> {
+    table: &'a Table,
+    engine: Engine,
     events: Vec<(usize, Vec<usize>)>,
 }
 
-impl Prefixes {
-    fn of(table: &Table) -> Prefixes {
+impl Prefixes<'_> {
+    fn of(table: &Table, engine: Engine) -> Prefixes<'_> {
         let events = table.memory_events();
         let is_before = |a: usize, b: usize| !steady_rules(table, a, b).is_empty();
         let before = |b: usize| events.iter().copied().filter(|&a| is_before(a, b)).collect();
-        Prefixes { events: events.iter().map(|&b| (b, before(b))).collect() }
+        Prefixes { table, engine, events: events.iter().map(|&b| (b, before(b))).collect() }
+    }
+
+    /// "refusal 15 read[s] over that list"; the empty start is always good.
+    fn is_listed(&self, list: &[usize]) -> bool {
+        let mut proper_prefixes = (0..list.len()).map(|length| &list[..length]);
+        self.is_clean(list) && proper_prefixes.all(|prefix| self.is_extended(prefix))
+    }
+
+    /// Whether the engine lists extensions of a clean prefix that it lists itself.
+    fn is_extended(&self, prefix: &[usize]) -> bool {
+        match self.engine {
+            Engine::First => true,
+            Engine::Second => !is_spoiled(self.table, prefix),
+        }
     }
 
     /// "A prefix is a list of different memory events. It is clean if no listed event has a
@@ -62,9 +95,12 @@ impl Prefixes {
         })
     }
 
-    /// Visits the clean extensions of a clean prefix, ascending. "To go deeper, the
+    /// Visits the listed extensions of a listed prefix, ascending. "To go deeper, the
     /// lowest-numbered event that may come next is taken first."
     fn descend(&self, prefix: &mut Vec<usize>, search: &mut Search) -> ControlFlow<Answer> {
+        if !self.is_extended(prefix) {
+            return ControlFlow::Continue(());
+        }
         for (event, predecessors) in &self.events {
             if may_follow(prefix, *event, predecessors) {
                 prefix.push(*event);
@@ -85,7 +121,7 @@ fn may_follow(prefix: &[usize], event: usize, predecessors: &[usize]) -> bool {
 }
 
 /// "From a start, the definition lists all nonempty clean prefixes greater than it,
-/// ascending."
+/// ascending": for the second engine, those of its list.
 struct Search<'a> {
     table: &'a Table,
     memory_events: usize,
@@ -116,7 +152,7 @@ impl<'a> Search<'a> {
         prefix < self.start && !self.start.starts_with(prefix)
     }
 
-    /// Counts a clean prefix if it is in the list. "Prefixes are compared entry by entry, and
+    /// Counts a prefix of the engine's list if it is greater than the start. "Prefixes are compared entry by entry, and
     /// a prefix comes before its extensions", which is how slices compare.
     fn meet(&mut self, prefix: &[usize]) -> ControlFlow<Answer> {
         if prefix <= self.start {
@@ -147,7 +183,7 @@ mod tests {
 
     fn run(test: &Table, start: &[u8], allowance: u64) -> Answer {
         let mut buffer = [0; MOST_EVENTS];
-        search(&encode(test), start, &mut buffer, allowance).expect("no line refuses")
+        Engine::First.search(&encode(test), start, &mut buffer, allowance).expect("no line refuses")
     }
 
     fn found(visited: u64, order: &[usize]) -> Answer {
@@ -280,7 +316,8 @@ mod tests {
     fn the_lowest_line_refuses_a_search() {
         let refusal = |start: &[u8], length: usize, allowance: u64| {
             let mut buffer = [7; MOST_EVENTS];
-            let answer = search(&encode(&c2()), start, &mut buffer[..length], allowance);
+            let answer =
+                Engine::First.search(&encode(&c2()), start, &mut buffer[..length], allowance);
             assert_eq!(buffer, [7; MOST_EVENTS]);
             answer.unwrap_err().line
         };
@@ -296,12 +333,12 @@ mod tests {
     fn found_and_spent_write_and_bytes_past_it_stay() {
         let block = encode(&c1());
         let mut buffer = [7; 5];
-        search(&block, &[], &mut buffer, 26).expect("no line refuses");
+        Engine::First.search(&block, &[], &mut buffer, 26).expect("no line refuses");
         assert_eq!(buffer, [1, 2, 3, 7, 7]);
-        search(&block, &[], &mut buffer, 27).expect("no line refuses");
+        Engine::First.search(&block, &[], &mut buffer, 27).expect("no line refuses");
         assert_eq!(buffer, [1, 2, 3, 0, 7]);
         let mut untouched = [7; 5];
-        search(&block, &[3, 1, 2, 0], &mut untouched, 27).expect("no line refuses");
+        Engine::First.search(&block, &[3, 1, 2, 0], &mut untouched, 27).expect("no line refuses");
         assert_eq!(untouched, [7; 5]);
     }
 }

@@ -2,7 +2,7 @@
 
 use crate::layout::{Edition, BLOCK_LENGTH, MOST_EVENTS};
 use crate::readings::spaced;
-use crate::search::{search, Answer};
+use crate::search::{Answer, Engine};
 use crate::table::{read, stated_edition};
 
 /// "allowance 1,000,000 from the empty start"
@@ -51,7 +51,7 @@ pub fn print_suite(suite: &[u8]) -> String {
 }
 
 fn outcome(test: &[u8]) -> String {
-    match search(test, &[], &mut [0; MOST_EVENTS], ALLOWANCE) {
+    match Engine::First.search(test, &[], &mut [0; MOST_EVENTS], ALLOWANCE) {
         Err(refusal) => format!("refused {}", refusal.line as u8),
         Ok(Answer::Found { visited, order }) => {
             format!("allowed, {visited} visited, order {}", spaced(&order))

@@ -6,7 +6,7 @@ use oracle::layout::*;
 use oracle::litmus::*;
 use oracle::operation::Operation;
 use oracle::raw::{write, RawTable};
-use oracle::search::{search, Answer};
+use oracle::search::{Answer, Engine};
 use oracle::suite::{next_block, print_suite, test_at, tests};
 use oracle::table::{read, Event, Kind, Line, Refusal, Table};
 
@@ -286,10 +286,10 @@ fn rules_verdict_and_search_are_those_of_any_table() {
     [returned[11], returned[13]] = [10, 8];
     assert_eq!(verdict(&encode_two(&test), &returned, &bytes), Ok(None));
     let mut buffer = [0; MOST_EVENTS];
-    let found = search(&encode_two(&test), &[], &mut buffer, 1000);
+    let found = Engine::First.search(&encode_two(&test), &[], &mut buffer, 1000);
     assert!(matches!(found, Ok(Answer::Found { order: first, .. }) if first == order));
     for read in 0..5 {
-        let none = search(&encode_two(&long_message(read)), &[], &mut buffer, 1000);
+        let none = Engine::First.search(&encode_two(&long_message(read)), &[], &mut buffer, 1000);
         assert!(matches!(none, Ok(Answer::NoneLeft { .. })));
     }
 }

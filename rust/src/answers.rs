@@ -116,7 +116,7 @@ impl fmt::Display for Axiom {
     }
 }
 
-/// What a search found, and how many clean prefixes it visited.
+/// What a search found, and how many prefixes of its engine's list it visited.
 #[derive(Clone, Copy, PartialEq, Eq, Hash, Debug)]
 pub enum Answer {
     /// A witness; its order is written.

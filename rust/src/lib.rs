@@ -40,7 +40,7 @@ mod table;
 mod witnesses;
 
 pub use answers::{Answer, Axiom, Refusal, Verdict};
-pub use library::{blocks, next_test, part, read, returns, rules, search, test_length, verdict, write};
+pub use library::{blocks, next_test, part, read, returns, rules, search, search_pruned, test_length, verdict, write};
 pub use operation::Operation;
 pub use rules::Rules;
 pub use suite::Tests;

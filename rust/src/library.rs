@@ -41,6 +41,16 @@ extern "C" {
         allowance: u64,
     ) -> u64;
 
+    fn ct_search_pruned(
+        test: *const u8,
+        test_len: usize,
+        start: *const u8,
+        start_len: usize,
+        out: *mut u8,
+        out_len: usize,
+        allowance: u64,
+    ) -> u64;
+
     fn ct_blocks(suite: *const u8, suite_len: usize) -> u64;
 
     fn ct_part_of(suite: *const u8, suite_len: usize, k: u64) -> Part;
@@ -240,6 +250,42 @@ pub fn search(test: &[u8], start: &[u8], out: &mut [u8], allowance: u64) -> Resu
     let word = unsafe {
         ct_search(test.as_ptr(), test.len(), start.as_ptr(), start.len(), out.as_mut_ptr(), out.len(), allowance)
     };
+    searched(word)
+}
+
+/// The same search by an engine that gives up early, for tests with many clean prefixes.
+///
+/// A clean prefix is spoiled if one of its readers returns another value than the stated one, whatever follows. This engine
+/// visits only the clean prefixes of which no proper prefix is spoiled, and `allowance`, the number visited and refusal 15
+/// read over these: a spoiled one is visited and may be a start, and what extends it is refused by 15. All else is as for
+/// [`search`].
+///
+/// From the empty start until none are left, both find the same witnesses in the same order. Keep to one of them from call
+/// to call, as [`Witnesses::pruned`](crate::Witnesses::pruned) does.
+///
+/// ```
+/// use cogthunder::{search, search_pruned, Answer, EVENTS};
+///
+/// let block = include_bytes!(concat!(env!("CARGO_MANIFEST_DIR"), "/../samples/C1.block"));
+/// let mut out = [0; EVENTS];
+/// assert_eq!(search(block, &[], &mut out, 1_000_000)?, Answer::Found { len: 4, visited: 27 });
+/// assert_eq!(search_pruned(block, &[], &mut out, 1_000_000)?, Answer::Found { len: 4, visited: 17 });
+/// assert_eq!(out[..4], [1, 2, 3, 0]);
+///
+/// // Event 3 reads 0 from x, and behind event 0 it would read 1: the prefix is spoiled, and goes no further.
+/// assert_eq!(search_pruned(block, &[0, 3], &mut out, 0)?, Answer::Spent { len: 2, visited: 0 });
+/// assert_eq!(search_pruned(block, &[0, 3, 1], &mut out, 0).unwrap_err().number, 15);
+/// # Ok::<(), cogthunder::Refusal>(())
+/// ```
+pub fn search_pruned(test: &[u8], start: &[u8], out: &mut [u8], allowance: u64) -> Result<Answer, Refusal> {
+    let word = unsafe {
+        ct_search_pruned(test.as_ptr(), test.len(), start.as_ptr(), start.len(), out.as_mut_ptr(), out.len(), allowance)
+    };
+    searched(word)
+}
+
+/// What the word of a search says.
+fn searched(word: u64) -> Result<Answer, Refusal> {
     let [case, len, ..] = parts(word)?;
     let (len, visited) = (usize::from(len), word >> u32::BITS);
     Ok(match case {

@@ -1,12 +1,15 @@
 //! All witnesses of a test, one after the other.
 
 use crate::answers::{Answer, Refusal};
-use crate::library::search;
+use crate::library::{search, search_pruned};
 use crate::{EVENTS, LARGEST_ALLOWANCE};
 use std::iter::FusedIterator;
 
 /// How many prefixes one search call visits at most, unless another allowance is chosen.
 const ALLOWANCE: u64 = 1_000_000;
+
+/// An engine: [`search`], or [`search_pruned`].
+type Search = fn(&[u8], &[u8], &mut [u8], u64) -> Result<Answer, Refusal>;
 
 /// All witnesses of a test, ascending, each as an order: the numbers of its memory events. An outcome without a witness
 /// is forbidden.
@@ -29,8 +32,23 @@ const ALLOWANCE: u64 = 1_000_000;
 /// assert_eq!(orders, walk.collect::<Vec<_>>());
 /// # Ok::<(), cogthunder::Refusal>(())
 /// ```
+///
+/// A walk keeps to one engine. The witnesses are the same by both; [`pruned`](Witnesses::pruned) is the one that gives up
+/// early, and visits fewer prefixes where a load reads a wrong value soon:
+///
+/// ```
+/// use cogthunder::Witnesses;
+///
+/// let block = include_bytes!(concat!(env!("CARGO_MANIFEST_DIR"), "/../samples/C1.block"));
+/// let mut all = Witnesses::of(block)?;
+/// let mut pruned = Witnesses::pruned(block)?;
+/// assert!(pruned.by_ref().eq(all.by_ref()));
+/// assert_eq!((all.visited(), pruned.visited()), (64, 34));
+/// # Ok::<(), cogthunder::Refusal>(())
+/// ```
 #[derive(Clone, Debug)]
 pub struct Witnesses<'a> {
+    search: Search,
     test: &'a [u8],
     start: Vec<u8>,
     allowance: u64,
@@ -44,12 +62,45 @@ impl<'a> Witnesses<'a> {
         Witnesses::resume(test, &[])
     }
 
-    /// From a start that an earlier walk over the same test had reached. It is refused by 1 to 11, and by 15 if no walk
-    /// over this test could have such a start.
+    /// From a start that an earlier walk over the same test had reached, by the same engine as [`of`](Witnesses::of). It is
+    /// refused by 1 to 11, and by 15 if no walk over this test could have such a start.
     pub fn resume(test: &'a [u8], start: &[u8]) -> Result<Witnesses<'a>, Refusal> {
+        Witnesses::by(search, test, start)
+    }
+
+    /// From the beginning, by the engine that gives up early ([`search_pruned`]). It is refused by 1 to 11, as the test is.
+    pub fn pruned(test: &'a [u8]) -> Result<Witnesses<'a>, Refusal> {
+        Witnesses::resume_pruned(test, &[])
+    }
+
+    /// From a start that an earlier [`pruned`](Witnesses::pruned) walk over the same test had reached. It is refused by 1 to
+    /// 11, and by 15 if no such walk could have that start.
+    ///
+    /// ```
+    /// use cogthunder::{Answer, Witnesses};
+    ///
+    /// let block = include_bytes!(concat!(env!("CARGO_MANIFEST_DIR"), "/../samples/C1.block"));
+    /// let mut walk = Witnesses::pruned(block)?.allowance(16);
+    /// assert_eq!(walk.step(), Answer::Spent { len: 3, visited: 16 });
+    /// let saved = walk.start().to_vec();
+    /// assert_eq!(saved, [1, 2, 3]);
+    ///
+    /// let orders: Vec<Vec<u8>> = Witnesses::resume_pruned(block, &saved)?.collect();
+    /// assert_eq!(orders, walk.collect::<Vec<_>>());
+    ///
+    /// // What extends the spoiled prefix 0 3 isn't visited by this engine.
+    /// assert_eq!(Witnesses::resume_pruned(block, &[0, 3, 1]).unwrap_err().number, 15);
+    /// assert!(Witnesses::resume(block, &[0, 3, 1]).is_ok());
+    /// # Ok::<(), cogthunder::Refusal>(())
+    /// ```
+    pub fn resume_pruned(test: &'a [u8], start: &[u8]) -> Result<Witnesses<'a>, Refusal> {
+        Witnesses::by(search_pruned, test, start)
+    }
+
+    fn by(search: Search, test: &'a [u8], start: &[u8]) -> Result<Witnesses<'a>, Refusal> {
         // Without any allowance, the call only tells whether it is refused.
         search(test, start, &mut [0; EVENTS], 0)?;
-        Ok(Witnesses { test, start: start.to_vec(), allowance: ALLOWANCE, visited: 0, finished: false })
+        Ok(Witnesses { search, test, start: start.to_vec(), allowance: ALLOWANCE, visited: 0, finished: false })
     }
 
     /// Chooses how many prefixes one search call visits at most: 1 to [`LARGEST_ALLOWANCE`], and what is outside is taken
@@ -62,7 +113,7 @@ impl<'a> Witnesses<'a> {
     /// Makes one search call, and moves the start to what it wrote. After [`Answer::Found`] the start is the witness.
     pub fn step(&mut self) -> Answer {
         let mut out = [0; EVENTS];
-        let answer = search(self.test, &self.start, &mut out, self.allowance)
+        let answer = (self.search)(self.test, &self.start, &mut out, self.allowance)
             .expect("the test and the start are good, and the room and the allowance are enough");
         match answer {
             Answer::Found { len, visited } | Answer::Spent { len, visited } => {

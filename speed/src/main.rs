@@ -1,9 +1,11 @@
 //! Times the proved search and reading beside plain Rust with the same algorithms, on the same tests and in the same run.
 
+mod facts;
+mod kept;
 mod plain;
 mod proved;
+mod pruned;
 mod reading;
-mod rules;
 mod shapes;
 mod suite;
 mod table;
@@ -14,7 +16,8 @@ use std::hint::black_box;
 use std::time::Instant;
 use table::{BLOCK, EVENTS};
 
-type Search = fn(&[u8], &mut [u8], u64) -> Result<Answer, Refusal>;
+/// Of a block, with a start, a buffer and an allowance.
+type Search = fn(&[u8], &[u8], &mut [u8], u64) -> Result<Answer, Refusal>;
 type Reading = fn(&[u8]) -> Option<Refusal>;
 
 const ALLOWANCE: u64 = 1_000_000;
@@ -45,7 +48,7 @@ fn name(answer: &Answer) -> &'static str {
 fn agreed(block: &[u8]) -> Answer {
     let call = |search: Search| {
         let mut out = [UNTOUCHED; EVENTS];
-        (search(block, &mut out, ALLOWANCE).expect("the block is good"), out)
+        (search(block, &[], &mut out, ALLOWANCE).expect("the block is good"), out)
     };
     let answer = call(proved::search);
     assert_eq!(answer, call(plain::search));
@@ -57,7 +60,7 @@ fn time<'a>(search: Search, blocks: impl Iterator<Item = &'a [u8]>) -> f64 {
     let mut out = [0; EVENTS];
     let begin = Instant::now();
     for block in blocks {
-        let _ = black_box(search(black_box(block), &mut out, ALLOWANCE));
+        let _ = black_box(search(black_box(block), &[], &mut out, ALLOWANCE));
     }
     begin.elapsed().as_nanos() as f64
 }
@@ -124,10 +127,13 @@ fn time_readings(edition: u8, kinds: &[Vec<u8>]) {
     println!("{SUITE_BLOCKS} tests of edition {edition} read, ms: proved {p:.1}, Rust {q:.1}, ratio {:.2}", p / q);
 }
 
-/// With the path of the proved suite program it times both of them too.
+/// With the path of the proved suite program it times both of them too. With a word it is the suite program, or times the
+/// second engine.
 fn main() {
-    if std::env::args().nth(1).as_deref() == Some(suite::COMMAND) {
-        return suite::run();
+    match std::env::args().nth(1).as_deref() {
+        Some(suite::COMMAND) => return suite::run(),
+        Some(pruned::COMMAND) => return pruned::run(),
+        _ => {}
     }
     time_shapes();
     time_suite();

@@ -1,74 +1,17 @@
-//! The search in plain Rust, by the same algorithm as the proved one.
+//! Both searches in plain Rust, by the same algorithm as the proved ones.
 
+use crate::facts::{highest, Facts};
 use crate::reading::{read, Refusal};
-use crate::rules::{by_returns, is_atomic, paired, steady, INITIALLY, NOTHING};
-use crate::table::{Table, EVENTS, LOCATIONS};
+use crate::table::EVENTS;
 
-#[derive(Debug, PartialEq)]
+#[derive(Clone, Copy, Debug, PartialEq)]
 pub enum Answer {
     Found { len: usize, visited: u64 },
     NoneLeft { visited: u64 },
     Spent { len: usize, visited: u64 },
 }
 
-/// What is prepared once for a table.
-struct Facts {
-    memory: u32,
-    readers: u32,
-    pred: [u32; EVENTS],
-    succ: [u32; EVENTS],
-    rivals: [u32; EVENTS],
-    own: [u32; EVENTS],
-    writers: [u32; LOCATIONS],
-}
-
-fn mask(t: &Table, test: impl Fn(usize) -> bool) -> u32 {
-    (0..t.count).filter(|&e| test(e)).map(|e| 1 << e).sum()
-}
-
-impl Facts {
-    fn of(t: &Table) -> Facts {
-        let rival = |r: usize, w: usize| {
-            let (x, y) = (&t.events[r], &t.events[w]);
-            x.reads() && y.writes() && x.location == y.location && w != r
-        };
-        let own = |r: usize, w: usize| rival(r, w) && w < r && t.events[w].hart == t.events[r].hart;
-        let mut facts = Facts {
-            memory: mask(t, |e| t.events[e].is_memory()),
-            readers: mask(t, |e| t.events[e].reads()),
-            pred: [0; EVENTS],
-            succ: [0; EVENTS],
-            rivals: [0; EVENTS],
-            own: [0; EVENTS],
-            writers: [0; LOCATIONS],
-        };
-        for e in 0..t.count {
-            facts.pred[e] = mask(t, |a| steady(t, a, e));
-            facts.succ[e] = mask(t, |b| steady(t, e, b));
-            facts.rivals[e] = mask(t, |w| rival(e, w));
-            facts.own[e] = mask(t, |w| own(e, w));
-        }
-        for x in 0..t.locations {
-            facts.writers[x] = mask(t, |w| t.events[w].writes() && usize::from(t.events[w].location) == x);
-        }
-        facts
-    }
-}
-
-/// A clean prefix; `placed` are its events, `can` those that may come next.
-struct Prefix {
-    order: [u8; EVENTS],
-    len: usize,
-    placed: u32,
-    can: u32,
-}
-
-struct Step {
-    keep: usize,
-    event: usize,
-    placed: u32,
-    can: u32,
-}
+const NOT_LISTED: Refusal = Refusal { line: 15, record: None };
 
 fn ready_of(facts: &Facts, rest: u32, placed: u32) -> u32 {
     let mut left = rest;
@@ -83,120 +26,234 @@ fn ready_of(facts: &Facts, rest: u32, placed: u32) -> u32 {
     ready
 }
 
-impl Prefix {
-    fn empty(facts: &Facts) -> Prefix {
-        Prefix { order: [0; EVENTS], len: 0, placed: 0, can: ready_of(facts, facts.memory, 0) }
+impl Facts {
+    /// With `good`, the readers that would read no wrong value at their locations now, the reader `e` reads a wrong one. An event
+    /// that doesn't read does not.
+    fn misreads(&self, e: usize, placed: u32, good: u32) -> bool {
+        let missing = self.own[e] & !placed;
+        let right = if missing == 0 { good } else { self.right[highest(missing)] };
+        right >> e & 1 == 0
     }
 
-    /// The next clean prefix, ascending.
-    fn next(&self, facts: &Facts) -> Option<Step> {
-        let Prefix { len: mut keep, mut placed, mut can, .. } = *self;
-        let mut later = can;
-        while later == 0 {
-            if keep == 0 {
-                return None;
-            }
-            keep -= 1;
-            let e = usize::from(self.order[keep]);
-            placed ^= 1 << e;
-            can = can & !facts.succ[e] | 1 << e;
-            later = can >> (e + 1) << (e + 1);
-        }
-        let event = later.trailing_zeros() as usize;
-        placed |= 1 << event;
-        can = can ^ 1 << event | ready_of(facts, facts.succ[event] & !placed, placed);
-        Some(Step { keep, event, placed, can })
+    fn good_after(&self, e: usize, good: u32) -> u32 {
+        good & !self.here[e] | self.right[e]
     }
 
-    fn take(&mut self, step: Step) {
-        self.order[step.keep] = step.event as u8;
-        self.len = step.keep + 1;
-        self.placed = step.placed;
-        self.can = step.can;
-    }
-
-    fn entries(&self) -> &[u8] {
-        &self.order[..self.len]
-    }
-}
-
-fn last_in(order: &[u8], events: u32) -> u8 {
-    order.iter().rev().copied().find(|&e| events >> e & 1 == 1).unwrap_or(INITIALLY)
-}
-
-/// What a reader returns from: a hart sees its own writes early.
-fn return_of(facts: &Facts, order: &[u8], r: usize) -> u8 {
-    let mut seen = facts.own[r];
-    for &e in order.iter().rev() {
-        if seen >> e & 1 == 1 {
-            return e;
-        }
-        if usize::from(e) == r {
-            seen = facts.rivals[r];
-        }
-    }
-    INITIALLY
-}
-
-fn value_of(t: &Table, location: usize, w: u8) -> u16 {
-    if w == INITIALLY {
-        t.initial[location]
-    } else {
-        t.events[usize::from(w)].written
-    }
-}
-
-fn values_met(t: &Table, facts: &Facts, order: &[u8]) -> bool {
-    let mut left = facts.readers;
-    while left != 0 {
-        let r = left.trailing_zeros() as usize;
-        left &= left - 1;
-        let w = return_of(facts, order, r);
-        if value_of(t, t.events[r].location.into(), w) != t.events[r].read {
+    /// The event may be returned from, or may return, and write where it stands: rules 2, 3 and 12, and atomicity.
+    fn may_place(&self, e: usize, placed: u32) -> bool {
+        let missing = self.own[e] & !placed;
+        if missing != 0 && self.needs[highest(missing)] & !placed != 0 {
             return false;
         }
+        let mut left = self.guards[e] & !placed;
+        while left != 0 {
+            let v = left.trailing_zeros() as usize;
+            left &= left - 1;
+            if self.window[v] & placed != 0 && self.ground[v] & !placed == 0 {
+                return false;
+            }
+        }
+        true
     }
-    (0..t.locations).all(|x| t.stated >> x & 1 == 0 || value_of(t, x, last_in(order, facts.writers[x])) == t.finals[x])
+
+    /// The last writer of each stated location leaves its final value. They are met soon from the end.
+    fn has_finals(&self, order: &[u8]) -> bool {
+        let mut left = self.stated;
+        for &e in order.iter().rev() {
+            if left == 0 {
+                break;
+            }
+            if left >> e & 1 == 1 {
+                if self.ends >> e & 1 == 0 {
+                    return false;
+                }
+                left &= !(self.peers[usize::from(e)] | 1 << e);
+            }
+        }
+        !self.unmet
+    }
+
+    /// A clean order of all memory events is a witness.
+    fn is_witness(&self, order: &[u8]) -> bool {
+        let (mut placed, mut good) = (0, self.good);
+        self.has_finals(order)
+            && order.iter().all(|&e| {
+                let e = usize::from(e);
+                let stands = !self.misreads(e, placed, good) && self.may_place(e, placed);
+                good = self.good_after(e, good);
+                placed |= 1 << e;
+                stands
+            })
+    }
 }
 
-/// The order is lawful, with the returns that it determines.
-fn is_lawful(t: &Table, facts: &Facts, order: &[u8]) -> bool {
-    let mut returned = [NOTHING; EVENTS];
-    let mut place = [0; EVENTS];
-    for (i, &e) in order.iter().enumerate() {
-        place[usize::from(e)] = i;
-    }
-    for r in (0..t.count).filter(|&r| t.events[r].reads()) {
-        returned[r] = return_of(facts, order, r);
-    }
-    let pairs = || (0..t.count).flat_map(|b| (0..b).map(move |a| (a, b)));
-    pairs().all(|(a, b)| place[a] <= place[b] || !(steady(t, a, b) || by_returns(t, &returned, a, b)))
-        && pairs().all(|(a, b)| !paired(t, a, b) || is_atomic(t, &returned, &place, a, b))
+/// The path to the prefixes that are visited next: its events, those that may follow, those of them that weren't taken yet; and
+/// for the second engine, for each length, the readers that would read no wrong value then.
+struct Path<const PRUNED: bool> {
+    order: [u8; EVENTS],
+    keep: usize,
+    placed: u32,
+    can: u32,
+    later: u32,
+    goods: [u32; EVENTS + 1],
 }
 
-/// A search from the empty start.
-fn search_table(t: &Table, out: &mut [u8], allowance: u64) -> Answer {
-    let facts = Facts::of(t);
+impl<const PRUNED: bool> Path<PRUNED> {
+    fn empty(facts: &Facts) -> Path<PRUNED> {
+        let can = ready_of(facts, facts.memory, 0);
+        let mut goods = [0; EVENTS + 1];
+        goods[0] = facts.good;
+        Path { order: [0; EVENTS], keep: 0, placed: 0, can, later: can, goods }
+    }
+
+    /// Adds the event to the path; it stands in `order` already.
+    fn enter(&mut self, facts: &Facts, e: usize) {
+        if PRUNED {
+            self.goods[self.keep + 1] = facts.good_after(e, self.goods[self.keep]);
+        }
+        self.keep += 1;
+        self.placed |= 1 << e;
+        self.can = self.can ^ 1 << e | ready_of(facts, facts.succ[e] & !self.placed, self.placed);
+        self.later = self.can;
+    }
+
+    /// Takes the last event back, so that only higher ones follow.
+    fn leave(&mut self, facts: &Facts) {
+        self.keep -= 1;
+        let e = usize::from(self.order[self.keep]);
+        self.placed ^= 1 << e;
+        self.can = self.can & !facts.succ[e] | 1 << e;
+        self.later = self.can >> e >> 1 << e << 1;
+    }
+
+    /// The path with this event is spoiled, and isn't entered.
+    fn spoils(&self, facts: &Facts, e: usize) -> bool {
+        PRUNED && facts.misreads(e, self.placed, self.goods[self.keep])
+    }
+
+    /// The path to the extensions of a start; of a start that is spoiled or whole, to what is greater than it.
+    fn load(facts: &Facts, start: &[u8]) -> Option<Path<PRUNED>> {
+        let mut path = Path::empty(facts);
+        for (i, &e) in start.iter().enumerate() {
+            if e as usize >= EVENTS || path.can >> e & 1 == 0 {
+                return None;
+            }
+            path.order[i] = e;
+            let spoiled = path.spoils(facts, e.into());
+            if spoiled && i + 1 < start.len() {
+                return None;
+            }
+            if spoiled {
+                path.later = path.can >> e >> 1 << e << 1;
+            } else {
+                path.enter(facts, e.into());
+            }
+        }
+        Some(path)
+    }
+}
+
+fn walk<const PRUNED: bool>(facts: &Facts, start: &[u8], out: &mut [u8], allowance: u64) -> Option<Answer> {
     let total = facts.memory.count_ones() as usize;
-    let mut prefix = Prefix::empty(&facts);
+    let mut path: Path<PRUNED> = Path::load(facts, start)?;
+    let mut len = start.len();
     let mut visited = 0;
-    while let Some(step) = prefix.next(&facts) {
-        if visited == allowance {
-            out[..prefix.len].copy_from_slice(prefix.entries());
-            return Answer::Spent { len: prefix.len, visited };
+    loop {
+        if path.later == 0 {
+            if path.keep == 0 {
+                return Some(Answer::NoneLeft { visited });
+            }
+            path.leave(facts);
+            continue;
         }
-        prefix.take(step);
+        if visited == allowance {
+            out[..len].copy_from_slice(&path.order[..len]);
+            return Some(Answer::Spent { len, visited });
+        }
+        let e = path.later.trailing_zeros() as usize;
+        path.later &= path.later - 1;
+        path.order[path.keep] = e as u8;
+        len = path.keep + 1;
         visited += 1;
-        let order = prefix.entries();
-        if prefix.len == total && values_met(t, &facts, order) && is_lawful(t, &facts, order) {
-            out[..total].copy_from_slice(order);
-            return Answer::Found { len: total, visited };
+        if path.spoils(facts, e) {
+            continue;
+        }
+        if len < total {
+            path.enter(facts, e);
+        } else if facts.is_witness(&path.order[..total]) {
+            out[..total].copy_from_slice(&path.order[..total]);
+            return Some(Answer::Found { len, visited });
         }
     }
-    Answer::NoneLeft { visited }
 }
 
-/// The whole call on a block, from the empty start.
-pub fn search(block: &[u8], out: &mut [u8], allowance: u64) -> Result<Answer, Refusal> {
-    read(block).map(|t| search_table(&t, out, allowance))
+fn call<const PRUNED: bool>(block: &[u8], start: &[u8], out: &mut [u8], allowance: u64) -> Result<Answer, Refusal> {
+    let facts = Facts::of(&read(block)?);
+    walk::<PRUNED>(&facts, start, out, allowance).ok_or(NOT_LISTED)
+}
+
+/// The first engine's call on a block, whose buffer and allowance are taken for good.
+pub fn search(block: &[u8], start: &[u8], out: &mut [u8], allowance: u64) -> Result<Answer, Refusal> {
+    call::<false>(block, start, out, allowance)
+}
+
+/// The second engine's.
+pub fn search_pruned(block: &[u8], start: &[u8], out: &mut [u8], allowance: u64) -> Result<Answer, Refusal> {
+    call::<true>(block, start, out, allowance)
+}
+
+#[cfg(test)]
+mod tests {
+    use super::*;
+    use oracle::encode::encode;
+    use oracle::generate::orders::{bytes, lawful_order, linear_extension, state_outcome};
+    use oracle::generate::prng::Prng;
+    use oracle::generate::random::random_table;
+    use oracle::search::{Answer as Other, Engine, MAX_ALLOWANCE};
+    use oracle::table::Table;
+
+    const TABLES: usize = 20_000;
+    const FEW_EVENTS: usize = 7;
+    const CALLS: usize = 6;
+
+    fn small_table(prng: &mut Prng) -> Table {
+        let (harts, locations) = (1 + prng.below(4), 1 + prng.below(3));
+        let events = 1 + prng.below(FEW_EVENTS);
+        let mut table = random_table(prng, harts, locations, events);
+        if !prng.one_in(3) {
+            if let Some(order) = lawful_order(prng, &table) {
+                state_outcome(&mut table, &order);
+            }
+        }
+        table
+    }
+
+    fn same(answer: Other) -> Answer {
+        match answer {
+            Other::Found { visited, order } => Answer::Found { len: order.len(), visited },
+            Other::NoneLeft { visited } => Answer::NoneLeft { visited },
+            Other::Spent { visited, prefix } => Answer::Spent { len: prefix.len(), visited },
+        }
+    }
+
+    #[test]
+    fn both_searches_answer_as_the_independent_program() {
+        let mut prng = Prng::new(1);
+        for _ in 0..TABLES {
+            let table = small_table(&mut prng);
+            let block = encode(&table);
+            for _ in 0..CALLS {
+                let mut start = bytes(&linear_extension(&mut prng, &table));
+                start.truncate(prng.below(start.len() + 1));
+                let allowance = *prng.pick(&[0, 1, 5, 20, MAX_ALLOWANCE, MAX_ALLOWANCE]);
+                for (engine, ours) in [(Engine::First, search as crate::Search), (Engine::Second, search_pruned)] {
+                    let (mut out, mut other) = ([0xEE; EVENTS], [0xEE; EVENTS]);
+                    let stated = engine.search(&block, &start, &mut other, allowance);
+                    let stated = stated.map(same).map_err(|r| Refusal { line: r.line as u8, record: r.record });
+                    assert_eq!(ours(&block, &start, &mut out, allowance), stated);
+                    assert_eq!(out, other);
+                }
+            }
+        }
+    }
 }

@@ -1,4 +1,4 @@
-//! The proved search and reading, by their signatures for C.
+//! The proved searches and reading, by their signatures for C.
 
 use crate::plain::Answer;
 use crate::reading::Refusal;
@@ -8,6 +8,16 @@ extern "C" {
     fn ct_read(test: *const u8, test_len: usize) -> u64;
 
     fn ct_search(
+        block: *const u8,
+        block_len: usize,
+        start: *const u8,
+        start_len: usize,
+        out: *mut u8,
+        out_len: usize,
+        allowance: u64,
+    ) -> u64;
+
+    fn ct_search_pruned(
         block: *const u8,
         block_len: usize,
         start: *const u8,
@@ -38,12 +48,7 @@ pub fn refusal(test: &[u8]) -> Option<Refusal> {
     (case == REFUSED).then(|| refused(line, record))
 }
 
-/// The whole call on a block, from the empty start.
-pub fn search(block: &[u8], out: &mut [u8], allowance: u64) -> Result<Answer, Refusal> {
-    let start: [u8; 0] = [];
-    // Each pointer is that of a slice, beside its length.
-    let word =
-        unsafe { ct_search(block.as_ptr(), block.len(), start.as_ptr(), 0, out.as_mut_ptr(), out.len(), allowance) };
+fn answer(word: u64) -> Result<Answer, Refusal> {
     let [case, first, second, ..] = word.to_le_bytes();
     let (len, visited) = (usize::from(first), word >> 32);
     match case {
@@ -52,4 +57,28 @@ pub fn search(block: &[u8], out: &mut [u8], allowance: u64) -> Result<Answer, Re
         SPENT => Ok(Answer::Spent { len, visited }),
         _ => Err(refused(first, second)),
     }
+}
+
+/// The first engine's call on a block.
+pub fn search(block: &[u8], start: &[u8], out: &mut [u8], allowance: u64) -> Result<Answer, Refusal> {
+    // Each pointer is that of a slice, beside its length.
+    answer(unsafe {
+        ct_search(block.as_ptr(), block.len(), start.as_ptr(), start.len(), out.as_mut_ptr(), out.len(), allowance)
+    })
+}
+
+/// The second engine's.
+pub fn search_pruned(block: &[u8], start: &[u8], out: &mut [u8], allowance: u64) -> Result<Answer, Refusal> {
+    // Each pointer is that of a slice, beside its length.
+    answer(unsafe {
+        ct_search_pruned(
+            block.as_ptr(),
+            block.len(),
+            start.as_ptr(),
+            start.len(),
+            out.as_mut_ptr(),
+            out.len(),
+            allowance,
+        )
+    })
 }

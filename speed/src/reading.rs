@@ -1,6 +1,6 @@
 //! Reading a test in plain Rust: refusals 1 to 11, and the table.
 
-use crate::rules::{ACQUIRE, RELEASE};
+use crate::facts::{ACQUIRE, RELEASE};
 use crate::table::*;
 
 const HEADER_ZEROS: std::ops::Range<usize> = 9..16;

@@ -15,7 +15,7 @@ const RUNS: usize = 5;
 
 fn line(k: usize, block: &[u8]) -> String {
     let mut out = [0; EVENTS];
-    match plain::search(block, &mut out, ALLOWANCE) {
+    match plain::search(block, &[], &mut out, ALLOWANCE) {
         Ok(Answer::Found { len, visited }) => {
             let order: Vec<String> = out[..len].iter().map(u8::to_string).collect();
             format!("block {k}: allowed, {visited} visited, order {}", order.join(" "))

@@ -23,9 +23,9 @@ use Rattle.candidate.specs.Buffers.{written}
 use Rattle.search.specs.Replies.{bufferAfter}
 use Rattle.bench.specs.Candidate.{verdictLines, verdictOf, returnsLines, returnsRefusal, returnsBuffer}
 use Rattle.bench.specs.PairRules.{rulesLines, rulesOf}
-use Rattle.bench.specs.Search.{ofBlock, refusalTo, replyTo, bufferLeft, searchLines}
+use Rattle.bench.specs.Search.{ofBlock, ofBlockPruned, refusalTo, replyTo, bufferLeft, searchLines, prunedLines}
 use Rattle.bench.specs.Demands.{refusalIn, Unaltered, Demand1, Demand2, Demands}
-use Rattle.bench.proofs.ReplyLaws.{block-sound}
+use Rattle.bench.proofs.ReplyLaws.{block-sound, pruned-sound}
 use Rattle.bench.proofs.Demand3Laws.{demand3}
 
 -- the refusal in a reply is the one by which it was refused
@@ -56,6 +56,8 @@ demand1 s t rf gmo start out a b allowance k = record {
   returns-unaltered = unless-refused (returnsRefusal s gmo out) (written (returns (decoded s) gmo) out) out;
   search = exactly-of _ (searchLines s start out allowance) _ (refusal-in _ _);
   search-unaltered = reply-unaltered (refusalTo (ofBlock s) start out allowance) _ out;
+  pruned = exactly-of _ (prunedLines s start out allowance) _ (refusal-in _ _);
+  pruned-unaltered = reply-unaltered (refusalTo (ofBlockPruned s) start out allowance) _ out;
   part = empty-exactly s k;
 }
 
@@ -79,4 +81,4 @@ demand2 s rf gmo = record {
 }
 
 pub demands : Demands
-demands = (demand1, demand2, λ s. demand3 (ofBlock s) (block-sound s))
+demands = (demand1, demand2, (λ s. demand3 (ofBlock s) (block-sound s)), λ s. demand3 (ofBlockPruned s) (pruned-sound s))

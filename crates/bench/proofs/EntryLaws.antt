@@ -1,6 +1,7 @@
 -- From reading to each entry: what a table that was read has, and what the whole refusal is.
 use Prim.Native.Nat.{ℕ}
 use mathlib.Core.Path.{_≡_, refl, sym, ap, subst, _∙_}
+use mathlib.Core.Bool.{Bool}
 use mathlib.Core.List.{List, _++_}
 use mathlib.Core.Logic.{_≢_}
 use Rattle.lists.specs.Reply.{Reply, refused}
@@ -16,7 +17,6 @@ use Rattle.prefixes.specs.Answer.{Answer}
 use Rattle.model.specs.Returns.{returns}
 use Rattle.model.specs.Verdict.{Verdict, verdict}
 use Rattle.model.specs.Witness.{statedOutcome}
-use Rattle.model.specs.Prefixes.{clean}
 use Rattle.placing.specs.GoodTable.{GoodTable}
 use Rattle.placing.proofs.GoodTableLaws.{good-table}
 use Rattle.candidate.specs.Buffers.{written}
@@ -26,7 +26,7 @@ use Rattle.pair_rules.specs.PairRules.{returnedLines, rulesBetween}
 use Rattle.pair_rules.proofs.PairLaws.{RuledAs}
 use Rattle.bench.specs.Candidate.{verdictLines, verdictOf, returnsLines, returnsRefusal, returnsBuffer}
 use Rattle.bench.specs.PairRules.{rulesLines, rulesOf}
-use Rattle.bench.specs.Search.{linesTo, refusalTo, replyTo, bufferLeft, searchReply, searchBuffer}
+use Rattle.bench.specs.Search.{ofBlockBy, linesTo, refusalTo, replyTo, bufferLeft}
 
 module _ (s : List ℕ) (ok : readRefusal s ≡ accepted) where
   -- the table is the one decoded
@@ -79,25 +79,28 @@ module _ (s gmo out : List ℕ) where
       own : firstLine (decoded s .count) (orderLines (decoded s) gmo out) ≡ firstLine (decoded s .count) (readingLines s ++ orderLines (decoded s) gmo out)
       own = sym (passed-first _ (readingLines s) _ ok)
 
--- The search entry.
-module _ (s start out : List ℕ) (b : ℕ) where
+-- The search entries, along the prefixes that pass.
+module _ (passes : Table → List ℕ → Bool) (s start out : List ℕ) (b : ℕ) where
+  abbrev reply : Reply Refused Answer
+  reply = replyTo (ofBlockBy passes s) start out b
+
   -- a reply with its buffer and length, of one that is the same
   told : (a c : Reply Refused Answer) → a ≡ c → (r : Reply Refused Answer) (after : List ℕ) (len : ℕ) →
       (r ≡ a) × ((after ≡ bufferAfter a out) × (len ≡ prefixLength a)) → (r ≡ c) × ((after ≡ bufferAfter c out) × (len ≡ prefixLength c))
   told a c e r after len h = (h .0 ∙ e, (h .1 .0 ∙ ap (λ (q : Reply Refused Answer). bufferAfter q out) e, h .1 .1 ∙ ap prefixLength e))
 
   pub search-declined : (q : Refused) → q ≡ readRefusal s → q ≢ accepted →
-      (refused q ≡ searchReply s start out b) × ((out ≡ searchBuffer s start out b) × (0 ≡ prefixLength (searchReply s start out b)))
+      (refused q ≡ reply) × ((out ≡ bufferLeft (ofBlockBy passes s) start out b) × (0 ≡ prefixLength reply))
   unfolding bufferLeft replyTo refusalTo linesTo readRefusal
-  search-declined q e n = told (refused q) (searchReply s start out b)
+  search-declined q e n = told (refused q) reply
       (entry-declined (decoded s .count) (readingLines s) _ _ q e n) (refused q) out 0 (refl, (refl, refl))
 
   pub search-answered : (t : Table) (r : Reply Refused Answer) (after : List ℕ) (len : ℕ) → readRefusal s ≡ accepted → t ≡ decoded s →
-      (let a = tableReply t (clean t) (statedOutcome t) start out b in (r ≡ a) × ((after ≡ bufferAfter a out) × (len ≡ prefixLength a))) →
-      (r ≡ searchReply s start out b) × ((after ≡ searchBuffer s start out b) × (len ≡ prefixLength (searchReply s start out b)))
+      (let a = tableReply t (passes t) (statedOutcome t) start out b in (r ≡ a) × ((after ≡ bufferAfter a out) × (len ≡ prefixLength a))) →
+      (r ≡ reply) × ((after ≡ bufferLeft (ofBlockBy passes s) start out b) × (len ≡ prefixLength reply))
   unfolding bufferLeft replyTo refusalTo linesTo tableReply readRefusal
-  search-answered t r after len ok e h = told (tableReply t (clean t) (statedOutcome t) start out b) (searchReply s start out b)
-      (ap (λ (x : Table). tableReply x (clean x) (statedOutcome x) start out b) e ∙ entry-own (decoded s .count) (readingLines s) _ _ ok)
+  search-answered t r after len ok e h = told (tableReply t (passes t) (statedOutcome t) start out b) reply
+      (ap (λ (x : Table). tableReply x (passes x) (statedOutcome x) start out b) e ∙ entry-own (decoded s .count) (readingLines s) _ _ ok)
       r after len h
 
 -- The entry for the rules of a pair.

@@ -1,4 +1,5 @@
 pub mod EntryLaws
 pub mod ReplyLaws
 pub mod Demand3Laws
+pub mod EngineLaws
 pub mod DemandLaws

@@ -20,15 +20,17 @@ use Rattle.prefixes.specs.Statements.{PrefixClosed, Honest}
 use Rattle.model.specs.Witness.{witnessFor}
 use Rattle.model.specs.Prefixes.{clean, prefixesBy, searchBy}
 use Rattle.model.proofs.PrefixLaws.{clean-closed, passing-listed, passing-ascending, passing-nonempty, witness-clean, witness-nonempty}
-use Rattle.bench.specs.Search.{Searched, ofBlock, linesTo, refusalTo, replyTo}
+use Rattle.pruning.proofs.UnprunedLaws.{unpruned-clean, unpruned-closed, witness-unpruned}
+use Rattle.bench.specs.Search.{Searched, ofBlock, ofBlockPruned, linesTo, refusalTo, replyTo}
 use Rattle.bench.specs.Demands.{refusal, isWitness, isListed, prefixes, Call}
+use Rattle.bench.proofs.EntryLaws.{good-read}
 
--- what demand 3 uses of what is searched: the test is prefix-closed, passed by clean prefixes only, and by every witness; and
--- what isn't refused has a memory event
+-- what demand 3 uses of what is searched: the test is prefix-closed and passed by clean prefixes only; what isn't refused has a
+-- memory event, and each of its witnesses passes
 pub record Sound (q : Searched) : Type 0 where
   pub closed : PrefixClosed (q .passes)
   pub cleanly : (p : List ℕ) → q .passes p ≡ true → clean (q .table) p ≡ true
-  pub witnesses : (p : List ℕ) → witnessFor (q .table) (q .outcome) p ≡ true → q .passes p ≡ true
+  pub witnesses : refusal q ≡ accepted → (p : List ℕ) → witnessFor (q .table) (q .outcome) p ≡ true → q .passes p ≡ true
   pub peopled : refusal q ≡ accepted → some (q .table .count) (memory (q .table)) ≡ true
 
 -- a table that reading accepts has a memory event
@@ -41,7 +43,17 @@ unfolding refusal readRefusal
 block-sound s = record {
   closed = clean-closed (decoded s);
   cleanly = λ p h. h;
-  witnesses = witness-clean (decoded s) _;
+  witnesses = λ h. witness-clean (decoded s) _;
+  peopled = read-memory s;
+}
+
+-- by the second engine
+pub pruned-sound : (s : List ℕ) → Sound (ofBlockPruned s)
+unfolding refusal readRefusal
+pruned-sound s = record {
+  closed = unpruned-closed (decoded s);
+  cleanly = unpruned-clean (decoded s);
+  witnesses = λ h. witness-unpruned (good-read s h);
   peopled = read-memory s;
 }
 
@@ -72,7 +84,7 @@ module _ (q : Searched) (sound : Sound q) where
           gmo ∈ unless r (prefixesBy (q .table) (q .passes)) []
       go accepted e h =
           passing-listed (q .table) (q .passes) (sound .closed) (sound .cleanly) gmo .1
-          (witness-nonempty (q .table) (q .outcome) gmo (sound .peopled e) h, sound .witnesses gmo h)
+          (witness-nonempty (q .table) (q .outcome) gmo (sound .peopled e) h, sound .witnesses e gmo h)
       go (byLine n) e h = absurd (false≢true h)
       go (byRecord n k) e h = absurd (false≢true h)
 

@@ -26,7 +26,8 @@ use Rattle.search.specs.declared.Reply as code
 use Rattle.search.specs.Replies.{replyOf, lengthOf, prefixLength}
 use Rattle.bench.specs.Candidate.{verdictLines, verdictOf, returnsLines, returnsRefusal, returnsBuffer}
 use Rattle.bench.specs.PairRules.{rulesLines, rulesOf}
-use Rattle.bench.specs.Search.{Searched, ofBlock, replyTo, bufferLeft, searchLines, searchReply, searchBuffer}
+use Rattle.bench.specs.Search.{Searched, ofBlock, ofBlockPruned, replyTo, bufferLeft, searchLines, searchReply, searchBuffer}
+use Rattle.bench.specs.Search.{prunedLines, prunedReply, prunedBuffer}
 
 -- Demand 1. Any bytes, lists and numbers may be handed in; each entry gives the refusal that the paper names, and then changes
 -- nothing that it was lent. (That every call ends without a fault is what the prover asks of each function.)
@@ -58,6 +59,9 @@ module _ (s : List ℕ) (t : Table) (rf gmo start out : List ℕ) (a b allowance
     -- a search: lines 1 to 11 and 15 to 17
     pub search : Exactly (decoded s .count) (searchLines s start out allowance) (refusalIn (searchReply s start out allowance))
     pub search-unaltered : Unaltered (refusalIn (searchReply s start out allowance)) out (searchBuffer s start out allowance)
+    -- the same by the second engine, whose line 15 is over its own list
+    pub pruned : Exactly (decoded s .count) (prunedLines s start out allowance) (refusalIn (prunedReply s start out allowance))
+    pub pruned-unaltered : Unaltered (refusalIn (prunedReply s start out allowance)) out (prunedBuffer s start out allowance)
     -- block k of a suite, line 18: "then, and only then, an empty part is handed back"
     pub part : (blockOf s k ≡ []) ↔ (inSuite s k ≡ false)
 
@@ -161,3 +165,11 @@ Demands =
     ((s : List ℕ) (t : Table) (rf gmo start out : List ℕ) (a b allowance k : ℕ) → Demand1 s t rf gmo start out a b allowance k)
     × ((s rf gmo : List ℕ) → Demand2 s rf gmo)
     × ((s : List ℕ) (cs : List Call) → Walk (ofBlock s) [] cs → Demand3 (ofBlock s) cs)
+    -- "and so does demand 3 for its walks; a walk keeps to one engine"
+    × ((s : List ℕ) (cs : List Call) → Walk (ofBlockPruned s) [] cs → Demand3 (ofBlockPruned s) cs)
+
+-- "Walked from the beginning until none are left, both engines hand out the same witnesses in the same order."
+abbrev pub BothEngines : Type 0
+BothEngines =
+    (s : List ℕ) (cs ds : List Call) → Walk (ofBlock s) [] cs → Walk (ofBlockPruned s) [] ds →
+    isFinished cs ≡ true → isFinished ds ≡ true → handedOut cs ≡ handedOut ds

@@ -10,6 +10,7 @@ use Rattle.block.specs.Reading.{readingLines}
 use Rattle.prefixes.specs.Answer.{Answer}
 use Rattle.model.specs.Witness.{statedOutcome}
 use Rattle.model.specs.Prefixes.{clean, searchBy}
+use Rattle.model.specs.Settled.{unpruned}
 use Rattle.search.specs.Replies.{startLines, bufferAfter}
 
 -- what is searched: the lines by which it may be refused, its table, the test of the prefixes that are listed, and the outcome
@@ -20,9 +21,18 @@ pub record Searched : Type 0 where
   pub passes : List ℕ → Bool
   pub outcome : List ℕ → Bool
 
--- a block: by its clean prefixes, for the outcome that it states
+-- a block, along the prefixes that pass, for the outcome that it states
+abbrev pub ofBlockBy : (Table → List ℕ → Bool) → List ℕ → Searched
+ofBlockBy passes s =
+    record { lines = readingLines s; table = decoded s; passes = passes (decoded s); outcome = statedOutcome (decoded s) }
+
+-- by the first engine: along its clean prefixes
 abbrev pub ofBlock : List ℕ → Searched
-ofBlock s = record { lines = readingLines s; table = decoded s; passes = clean (decoded s); outcome = statedOutcome (decoded s) }
+ofBlock s = ofBlockBy clean s
+
+-- by the second engine: along those that it doesn't prune
+abbrev pub ofBlockPruned : List ℕ → Searched
+ofBlockPruned s = ofBlockBy unpruned s
 
 -- the lines of a search: for a block 1 to 11, 15, 16, 17
 unfoldable pub linesTo : Searched → List ℕ → List ℕ → ℕ → List Line
@@ -39,7 +49,7 @@ replyTo q start out b = replyUnless (refusalTo q start out b) (searchBy (q .tabl
 unfoldable pub bufferLeft : Searched → List ℕ → List ℕ → ℕ → List ℕ
 bufferLeft q start out b = bufferAfter (replyTo q start out b) out
 
--- of a block
+-- of a block, by the first engine
 abbrev pub searchLines : List ℕ → List ℕ → List ℕ → ℕ → List Line
 searchLines s start out b = linesTo (ofBlock s) start out b
 
@@ -48,3 +58,13 @@ searchReply s start out b = replyTo (ofBlock s) start out b
 
 abbrev pub searchBuffer : List ℕ → List ℕ → List ℕ → ℕ → List ℕ
 searchBuffer s start out b = bufferLeft (ofBlock s) start out b
+
+-- by the second
+abbrev pub prunedLines : List ℕ → List ℕ → List ℕ → ℕ → List Line
+prunedLines s start out b = linesTo (ofBlockPruned s) start out b
+
+abbrev pub prunedReply : List ℕ → List ℕ → List ℕ → ℕ → Reply Refused Answer
+prunedReply s start out b = replyTo (ofBlockPruned s) start out b
+
+abbrev pub prunedBuffer : List ℕ → List ℕ → List ℕ → ℕ → List ℕ
+prunedBuffer s start out b = bufferLeft (ofBlockPruned s) start out b

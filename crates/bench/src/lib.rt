@@ -16,7 +16,7 @@ ghost use Rattle.pair_rules.specs.PairRules.{ruledOf};
 ghost use Rattle.search.specs.Replies.{replyOf, lengthOf, prefixLength};
 ghost use Rattle.bench.specs.Candidate.{verdictOf, returnsRefusal, returnsBuffer};
 ghost use Rattle.bench.specs.PairRules.{rulesOf};
-ghost use Rattle.bench.specs.Search.{searchReply, searchBuffer};
+ghost use Rattle.bench.specs.Search.{searchReply, searchBuffer, prunedReply, prunedBuffer};
 
 // Reading a test: refusals 1 to 11, and the table.
 pub fn read(bytes: &[u8]) -> Reading
@@ -124,5 +124,21 @@ pub fn search(bytes: &[u8], start: &[u8], out: &mut [u8], allowance: u64) -> Rep
         Refusal::None => search::search(t, start, out, allowance),
         Refusal::Line(n) => Reply::Refused(Refusal::Line(n)),
         Refusal::Record(n, k) => Reply::Refused(Refusal::Record(n, k)),
+    }
+}
+
+// One search call by the second engine, which gives up a prefix as soon as a value differs from the stated one.
+pub fn search_pruned(bytes: &[u8], start: &[u8], out: &mut [u8], allowance: u64) -> Reply
+    ensures { λ r. ⌜ replyOf r (now (out .exit)) ≡ prunedReply (now (bytes .entry)) (now (start .entry)) (now (out .entry)) allowance ⌝ }
+    ensures { λ r. ⌜ now (out .exit) ≡ prunedBuffer (now (bytes .entry)) (now (start .entry)) (now (out .entry)) allowance ⌝ }
+    ensures { λ r. ⌜ lengthOf r ≡ prefixLength (prunedReply (now (bytes .entry)) (now (start .entry)) (now (out .entry)) allowance) ⌝ }
+{
+    let reading = block::read(bytes);
+    let refusal = reading.refusal;
+    let t = reading.table;
+    match refusal {
+        Refusal::None => search::search_pruned(t, start, out, allowance),
+        Refusal::Line(n) => Reply::Refused(Refusal::Line(n)),
+        Refusal::Record(n, record) => Reply::Refused(Refusal::Record(n, record)),
     }
 }

@@ -23,13 +23,13 @@ use Rattle.prefixes.specs.Statements.{seek}
 use Rattle.prefixes.proofs.AnswerLaws.{seek-answer}
 use Rattle.prefixes.proofs.ListedLaws.{listed-only}
 use Rattle.model.specs.Witness.{witnessFor, statedOutcome}
-use Rattle.model.specs.Prefixes.{clean, cleanPrefixes, searchBy}
+use Rattle.model.specs.Prefixes.{clean, prefixesBy, cleanPrefixes, searchBy}
 use Rattle.model.proofs.PrefixLaws.{clean-listed}
 use Rattle.candidate.specs.CandidateLines.{startWrong}
 use Rattle.table.specs.Counts.{Small}
 use Rattle.search.specs.Replies.{maxAllowance, startLines, replyOf, lengthOf, prefixLength}
 use Rattle.search.proofs.CallLaws.{count-small}
-use Rattle.bench.specs.Search.{ofBlock, linesTo, refusalTo, replyTo, searchReply}
+use Rattle.bench.specs.Search.{ofBlockBy, linesTo, refusalTo, replyTo}
 use Rattle.bench.specs.Demands.{Promised}
 use Rattle.bench.proofs.EntryLaws.{small-read}
 use Rattle.witness_walk.specs.declared.Ending.the-variants.{Found, NoneLeft, Spent}
@@ -64,46 +64,49 @@ seek-fits goal (p ∷ l) s (suc b) n h k r =
     go true f = (short, omega arith)
     go false f = f
 
-module _ (t : Table) (small : Small t) where
+-- Along the prefixes that pass a test of clean ones.
+module _ (t : Table) (small : Small t) (passes : List ℕ → Bool) (cleanly : (p : List ℕ) → passes p ≡ true → clean t p ≡ true) where
   -- a listed prefix has at most the memory events
-  listed-short : (p : List ℕ) → p ∈ cleanPrefixes t → length p < 256
+  listed-short : (l : List ℕ → Bool) (p : List ℕ) → p ∈ prefixesBy t l → length p < 256
+  listed-short l p m = omega (arith, listed-only l (memoryEvents t) (memoryCount t) p m .2, count-small t small)
+
+  -- so has one that passes
+  passing-short : (p : List ℕ) → passes p ≡ true → length p < 256
   unfolding cleanPrefixes
-  listed-short p m =
-      omega (arith, listed-only (clean t) (memoryEvents t) (memoryCount t) p m .2, count-small t small)
+  passing-short [] h = omega arith
+  passing-short (x ∷ p) h = listed-short (clean t) (x ∷ p) (clean-listed t (x ∷ p) .1 (cons-ne-nil x p, cleanly (x ∷ p) h))
 
-  -- so has a clean one
-  clean-short : (p : List ℕ) → clean t p ≡ true → length p < 256
-  clean-short [] h = omega arith
-  clean-short (x ∷ p) h = listed-short (x ∷ p) (clean-listed t (x ∷ p) .1 (cons-ne-nil x p, h))
-
-  -- the answer from a clean start
-  search-fits : (s : List ℕ) (b : ℕ) → clean t s ≡ true → b ≤ maxAllowance → AnswerFits (searchBy t (clean t) (statedOutcome t) s b)
-  unfolding searchBy cleanPrefixes
+  -- the answer from such a start
+  search-fits : (s : List ℕ) (b : ℕ) → passes s ≡ true → b ≤ maxAllowance → AnswerFits (searchBy t passes (statedOutcome t) s b)
+  unfolding searchBy
   search-fits s b h k =
-      subst AnswerFits (sym (seek-answer goal (after s (cleanPrefixes t)) s b))
-      (seek-fits goal (after s (cleanPrefixes t)) s b 0 (clean-short s h)
-      (λ p m. listed-short p (keep-only (less s) (cleanPrefixes t) p m .0)) (omega arith))
+      subst AnswerFits (sym (seek-answer goal (after s (prefixesBy t passes)) s b))
+      (seek-fits goal (after s (prefixesBy t passes)) s b 0 (passing-short s h)
+      (λ p m. listed-short passes p (keep-only (less s) (prefixesBy t passes) p m .0)) (omega arith))
     where
       goal : List ℕ → Bool
       goal = witnessFor t (statedOutcome t)
 
--- the reply of any bytes
-reply-fits : (s start out : List ℕ) (b : ℕ) → ReplyFits (searchReply s start out b)
-unfolding replyTo refusalTo linesTo readRefusal startLines startWrong
-reply-fits s start out b = go (refusalTo (ofBlock s) start out b) refl
-  where
-    t : Table
-    t = decoded s
+-- Of any bytes, by either engine.
+module _ (passes : Table → List ℕ → Bool) (cleanly : (t : Table) (p : List ℕ) → passes t p ≡ true → clean t p ≡ true)
+    (s start out : List ℕ) (b : ℕ) where
+  reply-fits : ReplyFits (replyTo (ofBlockBy passes s) start out b)
+  unfolding replyTo refusalTo linesTo readRefusal startLines startWrong
+  reply-fits = go (refusalTo (ofBlockBy passes s) start out b) refl
+    where
+      t : Table
+      t = decoded s
 
-    go : (r : Refused) → refusalTo (ofBlock s) start out b ≡ r → ReplyFits (replyUnless r (searchBy t (clean t) (statedOutcome t) start b))
-    go accepted h =
-        let both = passed-both (t .count) (readingLines s) (startLines t (clean t) start out b) h in
-        let room = whole-off _ _ _ _ (both .1) in
-        let rest = whole-off _ _ _ _ (room .1) in
-        let few = whole-off _ _ _ _ (rest .1) in
-        search-fits t (small-read s (both .0)) start b (not-false _ (room .0)) (ltb-false _ _ (few .0))
-    go (byLine n) h = tt
-    go (byRecord n k) h = tt
+      go : (r : Refused) → refusalTo (ofBlockBy passes s) start out b ≡ r →
+          ReplyFits (replyUnless r (searchBy t (passes t) (statedOutcome t) start b))
+      go accepted h =
+          let both = passed-both (t .count) (readingLines s) (startLines t (passes t) start out b) h in
+          let room = whole-off _ _ _ _ (both .1) in
+          let rest = whole-off _ _ _ _ (room .1) in
+          let few = whole-off _ _ _ _ (rest .1) in
+          search-fits t (small-read s (both .0)) (passes t) (cleanly t) start b (not-false _ (room .0)) (ltb-false _ _ (few .0))
+      go (byLine n) h = tt
+      go (byRecord n k) h = tt
 
 -- of the code's reply, whose length is that of its prefix
 module _ (out : List ℕ) where
@@ -119,16 +122,21 @@ module _ (out : List ℕ) where
   word-given (Answered (NoneLeft v)) e = refl
   word-given (Answered (Spent len v)) e = ap (λ (n : ℕ). word 9 n 0 0 v) e
 
--- a call, by what the search entry promises of it
-module _ (s start out : List ℕ) (b : ℕ) (after : List ℕ) (r : code.Reply)
-    (h : Promised (ofBlock s) start (record { allowance = b; buffer = out; reply = r; after = after })) where
+-- a call, by what its entry promises of it
+module _ (passes : Table → List ℕ → Bool) (cleanly : (t : Table) (p : List ℕ) → passes t p ≡ true → clean t p ≡ true)
+    (s start out : List ℕ) (b : ℕ) (after : List ℕ) (r : code.Reply)
+    (h : Promised (ofBlockBy passes s) start (record { allowance = b; buffer = out; reply = r; after = after })) where
   counts : lengthOf r ≡ prefixLength (replyOf r after)
   counts = h .1 .1 ∙ ap prefixLength (sym (h .0))
 
   -- the reply has room in a word
   pub given-fits : GivenFits r
-  given-fits = fits-given after r counts (subst ReplyFits (sym (h .0)) (reply-fits s start out b))
+  given-fits = fits-given after r counts (subst ReplyFits (sym (h .0)) (reply-fits passes cleanly s start out b))
 
   -- and its word is that of the definition's reply
-  pub given-word : givenWord r ≡ replyWord (searchReply s start out b)
+  pub given-word : givenWord r ≡ replyWord (replyTo (ofBlockBy passes s) start out b)
   given-word = word-given after r counts ∙ ap replyWord (h .0)
+
+-- clean prefixes are clean
+pub clean-cleanly : (t : Table) (p : List ℕ) → clean t p ≡ true → clean t p ≡ true
+clean-cleanly t p h = h

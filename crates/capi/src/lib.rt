@@ -9,7 +9,7 @@ ghost use Rattle.suite_part.specs.Part.{blockCount};
 ghost use Rattle.suite_walk.specs.Tests.{testLengthAt, nextBlock};
 ghost use Rattle.bench.specs.Candidate.{verdictOf, returnsRefusal, returnsBuffer};
 ghost use Rattle.bench.specs.PairRules.{rulesOf};
-ghost use Rattle.bench.specs.Search.{searchReply, searchBuffer};
+ghost use Rattle.bench.specs.Search.{searchReply, searchBuffer, prunedReply, prunedBuffer};
 ghost use Rattle.answer_word.specs.Words.{refusalWord, judgedWord, ruledWord, replyWord};
 ghost use Rattle.capi.specs.Parts.{partRefusal, partOffset, partLength};
 
@@ -73,6 +73,20 @@ pub extern "C" fn ct_search(block: &[u8], start: &[u8], out: &mut [u8], allowanc
     ensures { λ r. ⌜ now (out .exit) ≡ searchBuffer (now (block .entry)) (now (start .entry)) (now (out .entry)) allowance ⌝ }
 {
     answer_word::reply_word(bench::search(block, start, out, allowance))
+}
+
+// One search call by the second engine. A walk keeps to one engine.
+#[no_mangle]
+pub extern "C" fn ct_search_pruned(
+    block: &[u8],
+    start: &[u8],
+    out: &mut [u8],
+    allowance: u64,
+) -> u64
+    ensures { λ r. ⌜ r ≡ replyWord (prunedReply (now (block .entry)) (now (start .entry)) (now (out .entry)) allowance) ⌝ }
+    ensures { λ r. ⌜ now (out .exit) ≡ prunedBuffer (now (block .entry)) (now (start .entry)) (now (out .entry)) allowance ⌝ }
+{
+    answer_word::reply_word(bench::search_pruned(block, start, out, allowance))
 }
 
 // How many blocks a suite has; a last part block counts.

@@ -19,6 +19,7 @@ use Rattle.model.specs.Axioms.{breaksAtomicity, atomicityWriter, preserv
 use Rattle.model.specs.Witness.{isOrder, lawful, witness}
 use Rattle.model.specs.Verdict.{Verdict, verdict}
 use Rattle.model.specs.Prefixes.{clean, cleanPrefixes, search, witnesses}
+use Rattle.model.specs.Settled.{settled, spoiled, unpruned, unprunedPrefixes, searchPruned}
 
 abbrev pub x : ℕ
 x = 0
@@ -217,6 +218,17 @@ pub data Claim : Type 0 where
   cleanly : Table → List ℕ → Bool → Claim
   -- all clean prefixes, ascending
   allClean : Table → List (List ℕ) → Claim
+  -- what the return of a reader listed in a prefix is settled to
+  settles : Table → (p : List ℕ) → (reader write : ℕ) → Claim
+  -- a prefix is spoiled, or not
+  spoils : Table → List ℕ → Bool → Claim
+  -- the second engine visits a list, or not
+  visits : Table → List ℕ → Bool → Claim
+  -- all that it visits, ascending; their number
+  allVisited : Table → List (List ℕ) → Claim
+  visitedCount : Table → ℕ → Claim
+  -- its answer from a start with an allowance
+  searchedPruned : Table → (start : List ℕ) → (allowance : ℕ) → Answer → Claim
   -- lines 5 to 11 accept the table
   accepts : Table → Claim
   -- they refuse it, by this
@@ -240,6 +252,12 @@ Right (atomicityAt t rf gmo l ws) = namedWriter t rf gmo l ≡ ws
 Right (weighed t gmo o l w) = (isOrder t gmo ∷ lawful t gmo ∷ witness t gmo ∷ []) ≡ (o ∷ l ∷ w ∷ [])
 Right (cleanly t p c) = clean t p ≡ c
 Right (allClean t ps) = cleanPrefixes t ≡ ps
+Right (settles t p r w) = settled t p r ≡ w
+Right (spoils t p b) = spoiled t p ≡ b
+Right (visits t p b) = unpruned t p ≡ b
+Right (allVisited t ps) = unprunedPrefixes t ≡ ps
+Right (visitedCount t n) = length (unprunedPrefixes t) ≡ n
+Right (searchedPruned t s b r) = searchPruned t s b ≡ r
 Right (accepts t) = refusal false t ≡ accepted
 Right (refuses r t) = refusal false t ≡ r
 Right (refusesWithBytes r t) = refusal true t ≡ r
@@ -263,6 +281,12 @@ Accepted (atomicityAt t rf gmo l ws) = Passes t
 Accepted (weighed t gmo o l w) = Passes t
 Accepted (cleanly t p c) = Passes t
 Accepted (allClean t ps) = Passes t
+Accepted (settles t p r w) = Passes t
+Accepted (spoils t p b) = Passes t
+Accepted (visits t p b) = Passes t
+Accepted (allVisited t ps) = Passes t
+Accepted (visitedCount t n) = Passes t
+Accepted (searchedPruned t s b r) = Passes t
 Accepted (accepts t) = Unit {0}
 Accepted (refuses r t) = Unit {0}
 Accepted (refusesWithBytes r t) = Unit {0}

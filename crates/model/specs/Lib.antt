@@ -5,10 +5,12 @@ pub mod Witness
 pub mod Verdict
 pub mod Says
 pub mod Prefixes
+pub mod Settled
 pub mod Computes
 pub mod Claims
 pub mod Cases
 pub mod RuleCases
 pub mod AxiomCases
+pub mod PrunedCases
 pub mod LineCases
 pub mod Worked

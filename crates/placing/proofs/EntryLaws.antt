@@ -34,7 +34,7 @@ use Rattle.placing.proofs.ReturnedLaws.{lawful-left}
 use Rattle.placing.proofs.PlacingLaws.{returned-placed}
 
 -- before entry i stand the first i
-ahead-among : (gmo : List ℕ) (i : ℕ) → distinct gmo ≡ true → i < length gmo → ahead gmo (getD gmo i 0) ≡ among gmo i
+pub ahead-among : (gmo : List ℕ) (i : ℕ) → distinct gmo ≡ true → i < length gmo → ahead gmo (getD gmo i 0) ≡ among gmo i
 ahead-among gmo i d l = fun-ext (λ a. before-taken gmo i a d l)
 
 -- what is asked of every entry, by those ahead of it, is asked at every place, by those before the place
@@ -54,7 +54,7 @@ clean-entries t p = go (isPrefix t p) refl
     go false h = refl
 
 -- the value that one of two writes leaves
-written-either : (t : Table) (x w v : ℕ) (b : Bool) → (b ≡ true → eqb w initially ≡ false) →
+pub written-either : (t : Table) (x w v : ℕ) (b : Bool) → (b ≡ true → eqb w initially ≡ false) →
     writtenValue t x (cond b w v) ≡ cond b (event t w .written) (writtenValue t x v)
 unfolding writtenValue
 written-either t x w v true h = rw (h refl)

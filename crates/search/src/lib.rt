@@ -18,6 +18,7 @@ ghost use Rattle.successors.specs.CleanMasks.{slots};
 ghost use Rattle.lists.specs.Reply.{answered};
 ghost use Rattle.model.specs.Witness.{statedOutcome};
 ghost use Rattle.model.specs.Prefixes.{clean};
+ghost use Rattle.model.specs.Settled.{unpruned};
 ghost use Rattle.successors.specs.Waiting.{Prepared};
 ghost use Rattle.placing.specs.GoodTable.{GoodTable};
 ghost use Rattle.event_sets.specs.Sets.{setsOf};
@@ -170,4 +171,15 @@ pub fn search(t: Table, start: &[u8], out: &mut [u8], allowance: u64) -> Reply
 {
     let s = event_sets::of_table(t);
     search_watching(t, s, 0, start, out, allowance)
+}
+
+// The same along the prefixes that aren't pruned: every reader is watched.
+pub fn search_pruned(t: Table, start: &[u8], out: &mut [u8], allowance: u64) -> Reply
+    requires { ⌜ GoodTable t ⌝ }
+    ensures { λ r. ⌜ replyOf r (now (out .exit)) ≡ tableReply t (unpruned t) (statedOutcome t) (now (start .entry)) (now (out .entry)) allowance ⌝ }
+    ensures { λ r. ⌜ now (out .exit) ≡ bufferAfter (tableReply t (unpruned t) (statedOutcome t) (now (start .entry)) (now (out .entry)) allowance) (now (out .entry)) ⌝ }
+    ensures { λ r. ⌜ lengthOf r ≡ prefixLength (tableReply t (unpruned t) (statedOutcome t) (now (start .entry)) (now (out .entry)) allowance) ⌝ }
+{
+    let s = event_sets::of_table(t);
+    search_watching(t, s, s.readers, start, out, allowance)
 }

@@ -1,13 +1,17 @@
-// Reads a stream of search calls, single ones and those of walks, and prints a line for each.
+// Reads a stream of search calls of both engines, single ones and those of walks, and prints a line for each.
 use console::Input;
 use console::Line;
 use search::Reply;
 use witness_walk::Ending;
 
-// A call from the start that it is given, and one from the walk's own.
+// A call from the start that it is given, and one from the walk's own; in small letters those of the second engine.
 const SEARCH: u8 = b'S';
 
 const WALK: u8 = b'W';
+
+const PRUNED_SEARCH: u8 = b's';
+
+const PRUNED_WALK: u8 = b'w';
 
 // What a part of the stream did; a call says how long the walk's start is after it.
 enum Effect {
@@ -41,19 +45,33 @@ fn line(k: u64, reply: Reply, answer: &[u8]) {
     calls::end(said, answer);
 }
 
-fn search(k: u64, block: &[u8], start: &[u8], answer: &mut [u8]) -> Reply {
+// By the first engine, or by the second.
+fn searched(pruned: bool, block: &[u8], start: &[u8], answer: &mut [u8], allowance: u64) -> Reply {
+    if pruned {
+        return bench::search_pruned(block, start, answer, allowance);
+    }
+    bench::search(block, start, answer, allowance)
+}
+
+fn search(k: u64, pruned: bool, block: &[u8], start: &[u8], answer: &mut [u8]) -> Reply {
     let allowance = calls::number();
-    let reply = bench::search(block, start, answer, allowance);
+    let reply = searched(pruned, block, start, answer, allowance);
     line(k, reply, answer);
     reply
 }
 
-fn single(k: u64, block: &[u8]) {
+fn single(k: u64, pruned: bool, block: &[u8]) {
     let mut start = [0u8; calls::LIST];
     let n = calls::list(&mut start);
     let mut answer = [calls::PREFILL; calls::LIST];
     let size = calls::length();
-    search(k, block, console::front(&start, n), &mut answer[..size]);
+    search(
+        k,
+        pruned,
+        block,
+        console::front(&start, n),
+        &mut answer[..size],
+    );
 }
 
 fn copy(from: &[u8], n: usize, to: &mut [u8]) {
@@ -65,8 +83,15 @@ fn copy(from: &[u8], n: usize, to: &mut [u8]) {
 }
 
 // The next call of the walk. Makes its next start: what was written, or the start again. Answers that one's length.
-fn advance(k: u64, block: &[u8], start: &mut [u8], len: usize, answer: &mut [u8]) -> usize {
-    match search(k, block, console::front(start, len), answer) {
+fn advance(
+    k: u64,
+    pruned: bool,
+    block: &[u8],
+    start: &mut [u8],
+    len: usize,
+    answer: &mut [u8],
+) -> usize {
+    match search(k, pruned, block, console::front(start, len), answer) {
         Reply::Refused(_) => len,
         Reply::Answered(o) => match o {
             Ending::NoneLeft { visited: _ } => len,
@@ -82,10 +107,10 @@ fn advance(k: u64, block: &[u8], start: &mut [u8], len: usize, answer: &mut [u8]
     }
 }
 
-fn walk(k: u64, block: &[u8], start: &mut [u8], len: usize) -> usize {
+fn walk(k: u64, pruned: bool, block: &[u8], start: &mut [u8], len: usize) -> usize {
     let mut answer = [calls::PREFILL; calls::LIST];
     let size = calls::length();
-    advance(k, block, start, len, &mut answer[..size])
+    advance(k, pruned, block, start, len, &mut answer[..size])
 }
 
 fn call(tag: u8, k: u64, block: &mut [u8], size: usize, start: &mut [u8], len: usize) -> Effect {
@@ -93,12 +118,13 @@ fn call(tag: u8, k: u64, block: &mut [u8], size: usize, start: &mut [u8], len: u
         return Effect::Lent(calls::frame(block));
     }
     let bytes = console::front(block, size);
-    if tag == SEARCH {
-        single(k, bytes);
+    let pruned = (tag == PRUNED_SEARCH) | (tag == PRUNED_WALK);
+    if (tag == SEARCH) | (tag == PRUNED_SEARCH) {
+        single(k, pruned, bytes);
         return Effect::Called(len);
     }
-    if tag == WALK {
-        return Effect::Called(walk(k, bytes, start, len));
+    if (tag == WALK) | (tag == PRUNED_WALK) {
+        return Effect::Called(walk(k, pruned, bytes, start, len));
     }
     Effect::End
 }

@@ -22,7 +22,7 @@ the test has no memory event
 the order doesn't have one entry for each memory event, or the returned list doesn't have one entry for each event
 the order doesn't name each memory event exactly once
 the returned list is wrong: an event that doesn't read needs the entry 254, and one that reads needs 255 (the initial value) or an event that writes to its location
-the search can't start there: the start isn't a clean prefix, a list of different memory events none of which stands without, or before, an event that the steady rules put before it
+the search can't start there: the start isn't a clean prefix, a list of different memory events none of which stands without, or before, an event that the steady rules put before it; or, for the search that gives up early, a value is wrong before its last event
 the answer buffer is too short: a search needs a byte for each memory event, and a returned list a byte for each event
 the allowance is above 1,000,000,000
 the suite has no block of that number

@@ -186,7 +186,7 @@ fn link(table: &mut Table, a: usize, b: usize) {
 mod tests {
     use super::*;
     use crate::encode::encode_fitting;
-    use crate::search::{Answer, MAX_ALLOWANCE};
+    use crate::search::{Answer, Engine, MAX_ALLOWANCE};
     use crate::table::read;
     use crate::walks::Walk;
 
@@ -197,7 +197,7 @@ mod tests {
     /// Whether there is a witness, and how many clean prefixes the table has: all that a walk to its
     /// end visits.
     fn walked(table: &Table) -> (bool, u64) {
-        let (test, mut walk) = (encode_fitting(table), Walk::default());
+        let (test, mut walk) = (encode_fitting(table), Walk::by(Engine::First));
         let (mut is_allowed, mut total) = (false, 0);
         loop {
             match walk.call(&test, &mut [0; MOST_EVENTS], MAX_ALLOWANCE) {

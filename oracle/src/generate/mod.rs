@@ -23,7 +23,7 @@ mod tests {
     use crate::operation::Operation;
     use crate::stream::{Malformed, Stream};
     use crate::table::{read, Event, Kind, RELEASE_RCPC, RELEASE_RCSC};
-    use crate::walks::{SEARCH, WALK};
+    use crate::walks::{PRUNED_SEARCH, PRUNED_WALK, SEARCH, WALK};
 
     /// The blocks that a stream of calls lends.
     fn lent(bytes: &[u8]) -> Result<Vec<&[u8]>, Malformed> {
@@ -35,8 +35,8 @@ mod tests {
                 VERDICT => drop((stream.list()?, stream.list()?)),
                 RETURNED => drop((stream.list()?, stream.byte()?)),
                 RULES => drop((stream.list()?, stream.number()?, stream.number()?)),
-                SEARCH => drop((stream.list()?, stream.byte()?, stream.number()?)),
-                WALK => drop((stream.byte()?, stream.number()?)),
+                SEARCH | PRUNED_SEARCH => drop((stream.list()?, stream.byte()?, stream.number()?)),
+                WALK | PRUNED_WALK => drop((stream.byte()?, stream.number()?)),
                 _ => return Err(Malformed),
             }
         }

@@ -15,10 +15,11 @@ use crate::layout::one::MAX_EVENTS;
 use crate::layout::*;
 use crate::litmus::{self, *};
 use crate::rules::steady_rules;
-use crate::search::{search, Answer, MAX_ALLOWANCE};
+use crate::search::{Answer, Engine, MAX_ALLOWANCE};
+use crate::settled::is_spoiled;
 use crate::stream::{push_frame, push_list};
 use crate::table::Table;
-use crate::walks::{Walk, SEARCH, WALK};
+use crate::walks::{Walk, PRUNED_SEARCH, PRUNED_WALK, SEARCH, WALK};
 
 const SEED: u64 = 3;
 /// Random tables, each walked in one way; their memory events are few, so that lists are
@@ -30,20 +31,31 @@ const LARGE_TABLES: usize = 30;
 /// Random tables of edition 2 that are chains, each walked in one way, and others.
 const RANDOM_CHAINS: usize = 42;
 const WIDE_TABLES: usize = 10;
+/// Random tables and chains that the second engine walks, each in one way.
+const PRUNED_TABLES: usize = 160;
+const PRUNED_CHAINS: usize = 24;
 /// No walk makes more calls than this.
 const MOST_CALLS: usize = 60;
 /// Calls of a table that aren't made to the end.
 const SOME_CALLS: usize = 8;
 
-/// The stream so far; the block lent last, with its table, and its walk.
+/// The stream so far; the block lent last, with its table, and its walk. The engine is that of the
+/// next calls.
 struct Calls {
     stream: Vec<u8>,
+    engine: Engine,
     block: Vec<u8>,
     memory_events: usize,
     walk: Walk,
 }
 
 impl Calls {
+    fn new() -> Calls {
+        let engine = Engine::First;
+        let (stream, block) = (Vec::new(), Vec::new());
+        Calls { stream, engine, block, memory_events: 0, walk: Walk::by(engine) }
+    }
+
     fn lend(&mut self, table: &Table) {
         self.lend_bytes(encode_fitting(table), table.memory_events().len());
     }
@@ -53,18 +65,25 @@ impl Calls {
         push_frame(&mut self.stream, &block);
         self.block = block;
         self.memory_events = memory_events;
-        self.walk = Walk::default();
+        self.walk = Walk::by(self.engine);
+    }
+
+    fn push_tag(&mut self, first: u8, second: u8) {
+        self.stream.push(match self.engine {
+            Engine::First => first,
+            Engine::Second => second,
+        });
     }
 
     fn search(&mut self, start: &[u8], buffer_length: usize, allowance: u64) {
-        self.stream.push(SEARCH);
+        self.push_tag(SEARCH, PRUNED_SEARCH);
         push_list(&mut self.stream, start);
         self.push_limits(buffer_length, allowance);
     }
 
     /// The walk's next call; says whether it answers none left.
     fn walk(&mut self, buffer_length: usize, allowance: u64) -> bool {
-        self.stream.push(WALK);
+        self.push_tag(WALK, PRUNED_WALK);
         self.push_limits(buffer_length, allowance);
         let answer = self.walk.call(&self.block, &mut vec![0; buffer_length], allowance);
         matches!(answer, Ok(Answer::NoneLeft { .. }))
@@ -78,8 +97,7 @@ impl Calls {
 
 pub fn make_walks() -> Vec<u8> {
     let prng = &mut Prng::new(SEED);
-    let mut calls =
-        Calls { stream: Vec::new(), block: Vec::new(), memory_events: 0, walk: Walk::default() };
+    let mut calls = Calls::new();
     for (_, test) in [litmus::all(), releasing_amos(), counters()].concat() {
         for way in WAYS {
             way(&mut calls, prng, &test);
@@ -101,7 +119,43 @@ pub fn make_walks() -> Vec<u8> {
         walk_by_witnesses(&mut calls, prng, &test);
     }
     walks_in_two(&mut calls, prng);
+    calls.engine = Engine::Second;
+    walks_of_the_second_engine(&mut calls, prng);
     calls.stream
+}
+
+/// The second engine on the first one's kinds of tables, in the same ways and from starts about the
+/// spoiled ones.
+fn walks_of_the_second_engine(calls: &mut Calls, prng: &mut Prng) {
+    let ways = [&WAYS[..], &[searches_about_spoiled_starts]].concat();
+    for (_, test) in [litmus::all(), releasing_amos(), counters()].concat() {
+        for way in &ways {
+            way(calls, prng, &test);
+        }
+    }
+    let cases = [operation_cases(), decided_cases(), atomicity_place_cases(), chain_cases()];
+    for (_, test) in cases.concat() {
+        walk_by_witnesses(calls, prng, &test);
+        searches_about_spoiled_starts(calls, prng, &test);
+    }
+    for number in 0..PRUNED_TABLES {
+        let table = small_table(prng);
+        ways[number % ways.len()](calls, prng, &table);
+    }
+    for number in 0..PRUNED_CHAINS {
+        let table = chained_table(prng);
+        ways[number % ways.len()](calls, prng, &table);
+    }
+    for _ in 0..WIDE_TABLES {
+        large_table_walk(calls, prng);
+        let table = wide_table(prng);
+        first_prefixes(calls, prng, table);
+    }
+    unclean_starts(calls);
+    refused_tables(calls, prng);
+    for test in refused_by_each_line() {
+        refused_walk(calls, prng, test, MOST_EVENTS);
+    }
 }
 
 /// Tables of more events than edition 1 has room for: chains, whose lists are short, and others, of
@@ -206,7 +260,7 @@ fn any_allowance(prng: &mut Prng) -> u64 {
 /// The first answer's visited number as the allowance, and numbers next to it.
 fn edges_of_the_first_answer(calls: &mut Calls, _: &mut Prng, table: &Table) {
     calls.lend(table);
-    let answer = search(&calls.block, &[], &mut [0; MOST_EVENTS], MAX_ALLOWANCE);
+    let answer = calls.engine.search(&calls.block, &[], &mut [0; MOST_EVENTS], MAX_ALLOWANCE);
     if let Ok(Answer::Found { visited, .. } | Answer::NoneLeft { visited }) = answer {
         for allowance in [visited - 1, visited, visited + 1] {
             calls.search(&[], calls.memory_events, allowance);
@@ -247,6 +301,48 @@ fn searches_from_any_starts(calls: &mut Calls, prng: &mut Prng, table: &Table) {
         calls.search(&order[..length], buffer_length, any_allowance(prng));
     }
     calls.walk(calls.memory_events, any_allowance(prng));
+}
+
+/// Single searches from the first spoiled prefix of an order, which is listed; from the prefix
+/// before it; and from its extensions, which aren't listed though they are clean.
+fn searches_about_spoiled_starts(calls: &mut Calls, prng: &mut Prng, table: &Table) {
+    calls.lend(table);
+    for _ in 0..SOME_CALLS / 2 {
+        let order = linear_extension(prng, table);
+        let is_first_spoiled = |&length: &usize| is_spoiled(table, &order[..length]);
+        let Some(spoiled) = (1..=order.len()).find(is_first_spoiled) else { continue };
+        let order = bytes(&order);
+        edges_of_an_answer(calls, &order[..spoiled]);
+        calls.search(&order[..spoiled - 1], calls.memory_events, any_allowance(prng));
+        for length in [spoiled + 1, order.len()] {
+            if length > spoiled && length <= order.len() {
+                refused_start(calls, &order[..length]);
+            }
+        }
+    }
+}
+
+/// A start with allowances at both ends of their range and about the number that is visited, and
+/// with buffers that are long enough and too short.
+fn edges_of_an_answer(calls: &mut Calls, start: &[u8]) {
+    let answer = calls.engine.search(&calls.block, start, &mut [0; MOST_EVENTS], MAX_ALLOWANCE);
+    if let Ok(Answer::Found { visited, .. } | Answer::NoneLeft { visited }) = answer {
+        for allowance in [0, visited.saturating_sub(1), visited, visited + 1, MAX_ALLOWANCE] {
+            calls.search(start, calls.memory_events, allowance);
+        }
+        calls.search(start, calls.memory_events + 1, visited);
+        calls.search(start, calls.memory_events - 1, visited);
+        calls.search(start, calls.memory_events, MAX_ALLOWANCE + 1);
+        calls.search(start, calls.memory_events - 1, MAX_ALLOWANCE + 1);
+    }
+}
+
+/// Line 15, alone and with lines 16 and 17.
+fn refused_start(calls: &mut Calls, start: &[u8]) {
+    calls.search(start, calls.memory_events, MAX_ALLOWANCE);
+    calls.search(start, 0, MAX_ALLOWANCE);
+    calls.search(start, calls.memory_events, MAX_ALLOWANCE + 1);
+    calls.search(start, 0, u64::MAX);
 }
 
 /// Takes the highest-numbered event that may come next, each time.
@@ -317,10 +413,7 @@ const UNCLEAN_STARTS: [&[u8]; 19] = [
 fn unclean_starts(calls: &mut Calls) {
     calls.lend(&c2());
     for start in UNCLEAN_STARTS {
-        calls.search(start, calls.memory_events, MAX_ALLOWANCE);
-        calls.search(start, 0, MAX_ALLOWANCE);
-        calls.search(start, calls.memory_events, MAX_ALLOWANCE + 1);
-        calls.search(start, 0, u64::MAX);
+        refused_start(calls, start);
     }
     calls.search(&[0, 3], calls.memory_events - 1, MAX_ALLOWANCE + 1);
     calls.search(&[0, 3], calls.memory_events, MAX_ALLOWANCE + 1);
@@ -352,4 +445,61 @@ fn refused_walk(calls: &mut Calls, prng: &mut Prng, test: Vec<u8>, memory_events
     }
     calls.search(&[0], memory_events, 1);
     calls.search(&[255], 0, u64::MAX);
+}
+
+#[cfg(test)]
+mod tests {
+    use super::*;
+    use crate::stream::{Malformed, Stream};
+    use crate::table::{read, Line};
+
+    /// The single calls of the second engine: each with its test, start, buffer length and allowance.
+    type Single<'a> = (&'a [u8], &'a [u8], usize, u64);
+
+    fn pruned_searches(bytes: &[u8]) -> Result<Vec<Single<'_>>, Malformed> {
+        let mut stream = Stream::new(bytes);
+        let mut test: &[u8] = &[];
+        let mut calls = Vec::new();
+        while !stream.is_empty() {
+            let tag = stream.byte()?;
+            if tag == LEND {
+                test = stream.frame()?;
+                continue;
+            }
+            let start = if [SEARCH, PRUNED_SEARCH].contains(&tag) { stream.list()? } else { &[] };
+            let (buffer_length, allowance) = (stream.byte()?.into(), stream.number()?);
+            if tag == PRUNED_SEARCH {
+                calls.push((test, start, buffer_length, allowance));
+            }
+        }
+        Ok(calls)
+    }
+
+    #[test]
+    fn spoiled_starts_and_their_extensions_are_met_in_both_editions() {
+        let stream = make_walks();
+        let calls = pruned_searches(&stream).expect("the stream is whole");
+        for edition in Edition::ALL {
+            let (mut spoiled, mut extended) = (0, 0);
+            for (test, start, length, allowance) in &calls {
+                let Ok(table) = read(test) else { continue };
+                if test.len() != edition.test_length() {
+                    continue;
+                }
+                let search =
+                    |engine: Engine| engine.search(test, start, &mut vec![0; *length], *allowance);
+                let events: Vec<usize> = start.iter().map(|&event| event.into()).collect();
+                match search(Engine::Second) {
+                    Ok(_) if is_spoiled(&table, &events) => spoiled += 1,
+                    Err(refusal)
+                        if refusal.line == Line::Start && search(Engine::First).is_ok() =>
+                    {
+                        extended += 1
+                    }
+                    _ => {}
+                }
+            }
+            assert!(spoiled >= 50 && extended >= 20, "{edition:?}: {spoiled}, {extended}");
+        }
+    }
 }

@@ -1,0 +1,50 @@
+use Rattle.bench.proofs.EntryLaws.{table-read, good-read, search-declined, search-answered}
+use Rattle.model.specs.Settled.{unpruned}
+use Rattle.placing.specs.GoodTable.{GoodTable}
+use Rattle.refusals.specs.Refusals.{refusalOf}
+use Rattle.refusals.proofs.LineLaws.{line-refuses, record-refuses}
+use mathlib.Core.Path.{ap, sym, subst, _∙_}
+use borrow.Author.Needs.{needs}
+use Rattle.bench.proofs.search_pruned.Statement.{statement}
+use Rattle.bench.proofs.search_pruned.Tie as tie
+
+read-requires : tie.Need-read-requires
+read-requires c κs = search needs
+
+enum-told : tie.Need-enum-told
+enum-told c = search needs
+
+search-pruned-requires : tie.Need-search-pruned-requires
+search-pruned-requires c κs = subst GoodTable (sym (c .before .before .before .before .read .ensures .1 ∙ table-read _ (sym (c .before .before .before .before .read .ensures .0) ∙ ap refusalOf (c .before .enum-told .given .1)))) (good-read _ (sym (c .before .before .before .before .read .ensures .0) ∙ ap refusalOf (c .before .enum-told .given .1)))
+
+enum-known-refusal : tie.Need-enum-known-refusal
+enum-known-refusal c = search needs
+
+enum-known-refusal-2 : tie.Need-enum-known-refusal-2
+enum-known-refusal-2 c = search needs
+
+same-length : tie.Need-same-length
+same-length c = search needs
+
+returns : tie.Need-returns
+returns c = search-answered unpruned _ _ _ _ _ _ _ _ (sym (c .before .before .before .before .before .before .before .read .ensures .0) ∙ ap refusalOf (c .before .before .before .before .enum-told .given .1)) (c .before .before .before .before .before .before .before .read .ensures .1 ∙ table-read _ (sym (c .before .before .before .before .before .before .before .read .ensures .0) ∙ ap refusalOf (c .before .before .before .before .enum-told .given .1))) (c .before .before .search-pruned .ensures)
+
+returns-2 : tie.Need-returns-2
+returns-2 c = search-declined unpruned _ _ _ _ _ (sym (ap refusalOf (c .before .refusal .given .1)) ∙ c .before .before .before .before .read .ensures .0) (line-refuses _)
+
+returns-3 : tie.Need-returns-3
+returns-3 c = search-declined unpruned _ _ _ _ _ (sym (ap refusalOf (c .before .refusal2 .given .1)) ∙ c .before .before .before .before .read .ensures .0) (record-refuses _ _)
+
+pub search-pruned-spec : {M : Type 1} → statement M
+search-pruned-spec =
+    tie.close
+    (tie.spec
+    read-requires
+    enum-told
+    search-pruned-requires
+    enum-known-refusal
+    enum-known-refusal-2
+    same-length
+    returns
+    returns-2
+    returns-3)
