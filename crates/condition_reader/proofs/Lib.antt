@@ -1,0 +1,7 @@
+pub mod NumberLaws
+pub mod WordLaws
+pub mod StepLaws
+pub mod JointLaws
+pub mod AtomLaws
+pub mod OpeningLaws
+pub mod ConditionLaws
