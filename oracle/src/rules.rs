@@ -183,11 +183,22 @@ pub enum Axiom {
 
 /// "Verdict order: preserved order; load value; atomicity; value read; final value"
 pub fn first_broken(table: &Table, order: &[usize], returns: &Returns) -> Option<Axiom> {
+    broken_law(table, order, returns)
+        .or_else(|| broken_value_read(table, returns))
+        .or_else(|| broken_final_value(table, order))
+}
+
+/// The first three of these, which ask for no stated value.
+fn broken_law(table: &Table, order: &[usize], returns: &Returns) -> Option<Axiom> {
     broken_preserved_order(table, order, returns)
         .or_else(|| broken_load_value(table, order, returns))
         .or_else(|| broken_atomicity(table, order, returns))
-        .or_else(|| broken_value_read(table, returns))
-        .or_else(|| broken_final_value(table, order))
+}
+
+/// "An order is lawful if, with the returns that it determines, preserved order, load value
+/// and atomicity hold."
+pub fn is_lawful(table: &Table, order: &[usize]) -> bool {
+    broken_law(table, order, &determined_returns(table, order)).is_none()
 }
 
 /// "It is a witness if besides that each reader returns its stated value and each stated
@@ -218,7 +229,7 @@ fn broken_preserved_order(table: &Table, order: &[usize], returns: &Returns) -> 
 
 /// "a reader returns from the latest in the order among writers to its location that precede
 /// it in the order or in program order, never itself"
-fn determined_return(table: &Table, order: &[usize], reader: usize) -> Write {
+pub fn determined_return(table: &Table, order: &[usize], reader: usize) -> Write {
     let may_be_returned = |&&writer: &&usize| {
         writer != reader
             && writes_to_location_of(table, writer, reader)
@@ -298,12 +309,20 @@ fn broken_final_value(table: &Table, order: &[usize]) -> Option<Axiom> {
     (0..table.locations).find(is_broken).map(|location| Axiom::FinalValue { location })
 }
 
-/// The value of "the location's last write"; with no writer that is the initial one.
+/// The stated value of the location's last write.
 pub fn last_value(table: &Table, order: &[usize], location: usize) -> u16 {
+    match last_write(table, order, location) {
+        Write::Initial => table.initial[location],
+        Write::Of(writer) => table.events[writer].written,
+    }
+}
+
+/// "the location's last write"; with no writer that is the initial one.
+pub fn last_write(table: &Table, order: &[usize], location: usize) -> Write {
     let writes_here =
         |&&e: &&usize| table.events[e].writes() && table.events[e].location == location;
     match order.iter().rev().find(writes_here) {
-        Some(&writer) => table.events[writer].written,
-        None => table.initial[location],
+        Some(&writer) => Write::Of(writer),
+        None => Write::Initial,
     }
 }

@@ -30,8 +30,7 @@ pub enum Engine {
 impl Engine {
     pub const ALL: [Engine; 2] = [Engine::First, Engine::Second];
 
-    /// "Found writes the order; spent writes the last prefix visited; bytes past it stay; none
-    /// left writes nothing."
+    /// The search of a test given as its bytes.
     pub fn search(
         self,
         block: &[u8],
@@ -40,35 +39,49 @@ impl Engine {
         allowance: u64,
     ) -> Result<Answer, Refusal> {
         let table = read(block)?;
-        let start: Vec<usize> = start.iter().map(|&event| event.into()).collect();
-        let prefixes = Prefixes::of(&table, self);
-        refuse_if(!prefixes.is_listed(&start), Line::Start)?;
-        refuse_if(buffer.len() < table.memory_events().len(), Line::Buffer)?;
-        refuse_if(allowance > MAX_ALLOWANCE, Line::Allowance)?;
-        let answer = Search::new(&table, &start, allowance).run(&prefixes);
-        if let Answer::Found { order: list, .. } | Answer::Spent { prefix: list, .. } = &answer {
-            for (byte, &event) in buffer.iter_mut().zip(list) {
-                *byte = event as u8;
-            }
-        }
-        Ok(answer)
+        let is_witness = |order: &[usize]| is_witness(&table, order);
+        Prefixes::of(&table, self).search(&is_witness, start, buffer, allowance)
     }
 }
 
 /// What decides which prefixes of a table an engine lists: the memory events, each with its
 /// steady predecessors, and whether spoiled prefixes are extended.
-struct Prefixes<'a> {
+pub struct Prefixes<'a> {
     table: &'a Table,
     engine: Engine,
     events: Vec<(usize, Vec<usize>)>,
 }
 
 impl Prefixes<'_> {
-    fn of(table: &Table, engine: Engine) -> Prefixes<'_> {
+    pub fn of(table: &Table, engine: Engine) -> Prefixes<'_> {
         let events = table.memory_events();
         let is_before = |a: usize, b: usize| !steady_rules(table, a, b).is_empty();
         let before = |b: usize| events.iter().copied().filter(|&a| is_before(a, b)).collect();
         Prefixes { table, engine, events: events.iter().map(|&b| (b, before(b))).collect() }
+    }
+
+    /// The search for an order that is a witness. "Found writes the order; spent writes the last
+    /// prefix visited; bytes past it stay; none left writes nothing."
+    pub fn search(
+        &self,
+        is_witness: &dyn Fn(&[usize]) -> bool,
+        start: &[u8],
+        buffer: &mut [u8],
+        allowance: u64,
+    ) -> Result<Answer, Refusal> {
+        let start: Vec<usize> = start.iter().map(|&event| event.into()).collect();
+        refuse_if(!self.is_listed(&start), Line::Start)?;
+        refuse_if(buffer.len() < self.events.len(), Line::Buffer)?;
+        refuse_if(allowance > MAX_ALLOWANCE, Line::Allowance)?;
+        let last = start.clone();
+        let search = Search { is_witness, start: &start, allowance, visited: 0, last };
+        let answer = search.run(self);
+        if let Answer::Found { order: list, .. } | Answer::Spent { prefix: list, .. } = &answer {
+            for (byte, &event) in buffer.iter_mut().zip(list) {
+                *byte = event as u8;
+            }
+        }
+        Ok(answer)
     }
 
     /// "refusal 15 read[s] over that list"; the empty start is always good.
@@ -104,7 +117,7 @@ impl Prefixes<'_> {
         for (event, predecessors) in &self.events {
             if may_follow(prefix, *event, predecessors) {
                 prefix.push(*event);
-                search.meet(prefix)?;
+                search.meet(prefix, self.events.len())?;
                 if !search.is_past(prefix) {
                     self.descend(prefix, search)?;
                 }
@@ -123,8 +136,7 @@ fn may_follow(prefix: &[usize], event: usize, predecessors: &[usize]) -> bool {
 /// "From a start, the definition lists all nonempty clean prefixes greater than it,
 /// ascending": for the second engine, those of its list.
 struct Search<'a> {
-    table: &'a Table,
-    memory_events: usize,
+    is_witness: &'a dyn Fn(&[usize]) -> bool,
     start: &'a [usize],
     allowance: u64,
     visited: u64,
@@ -132,12 +144,7 @@ struct Search<'a> {
     last: Vec<usize>,
 }
 
-impl<'a> Search<'a> {
-    fn new(table: &'a Table, start: &'a [usize], allowance: u64) -> Search<'a> {
-        let memory_events = table.memory_events().len();
-        Search { table, memory_events, start, allowance, visited: 0, last: start.to_vec() }
-    }
-
+impl Search<'_> {
     /// "none left, if the list has at most B entries and no witness"
     fn run(mut self, prefixes: &Prefixes) -> Answer {
         match prefixes.descend(&mut Vec::new(), &mut self) {
@@ -154,7 +161,7 @@ impl<'a> Search<'a> {
 
     /// Counts a prefix of the engine's list if it is greater than the start. "Prefixes are compared entry by entry, and
     /// a prefix comes before its extensions", which is how slices compare.
-    fn meet(&mut self, prefix: &[usize]) -> ControlFlow<Answer> {
+    fn meet(&mut self, prefix: &[usize], memory_events: usize) -> ControlFlow<Answer> {
         if prefix <= self.start {
             return ControlFlow::Continue(());
         }
@@ -165,7 +172,7 @@ impl<'a> Search<'a> {
         }
         self.visited += 1;
         self.last = prefix.to_vec();
-        if prefix.len() == self.memory_events && is_witness(self.table, prefix) {
+        if prefix.len() == memory_events && (self.is_witness)(prefix) {
             let order = prefix.to_vec();
             return ControlFlow::Break(Answer::Found { visited: self.visited, order });
         }

@@ -71,6 +71,10 @@ impl Event {
         matches!(self.kind, Kind::Store | Kind::Amo | Kind::Sc)
     }
 
+    pub fn has_operation(&self) -> bool {
+        self.operation != Operation::None
+    }
+
     pub fn is_fence(&self) -> bool {
         matches!(self.kind, Kind::Fence | Kind::FenceTso)
     }
@@ -154,6 +158,9 @@ pub enum Line {
     Start = 15,
     Buffer = 16,
     Allowance = 17,
+    Grammar = 19,
+    Levels = 20,
+    Names = 23,
 }
 
 #[derive(Clone, Copy, PartialEq, Eq, Debug)]
@@ -283,10 +290,18 @@ fn decode(edition: Edition, test: &[u8]) -> Result<Table, Refusal> {
     Ok(table)
 }
 
-/// 7, but for a kind out of range and "an operation above 6": "hart, location or flags out of
-/// range; a non-reader with a value read or a non-writer with a value written that isn't zero;
-/// a fence with location or mask not zero; flags on fence.tso"; and what is said of operations.
+/// 7, but for a kind out of range and "an operation above 6": the lines of a block and of a text
+/// have `form_broken` in common; "with [an operation], the written value must be the operation
+/// applied to the value read".
 pub fn fields_broken(table: &Table, event: &Event) -> bool {
+    let applied = event.operation.applied(event.read, event.operand);
+    form_broken(table, event) || applied.is_some_and(|written| event.written != written)
+}
+
+/// 7: "hart, location or flags out of range; a non-reader with a value read or a non-writer with
+/// a value written that isn't zero; a fence with location or mask not zero; flags on fence.tso".
+/// Of operations: "Only an AMO may have an operation", and without one the operand is 0.
+pub fn form_broken(table: &Table, event: &Event) -> bool {
     let out_of_range =
         event.hart >= table.harts || event.location >= table.locations || event.flags > ALL_FLAGS;
     let has_masks = event.address | event.data | event.control != 0;
@@ -295,17 +310,8 @@ pub fn fields_broken(table: &Table, event: &Event) -> bool {
         || !event.writes() && event.written != 0
         || event.is_fence() && (event.location != 0 || has_masks)
         || event.kind == Kind::FenceTso && event.flags != 0
-        || operation_broken(event)
-}
-
-/// 7, of operations: "Only an AMO may have an operation. With one, the written value must be the
-/// operation applied to the value read. .. an operand without an operation, an operation on
-/// another kind, a wrong written value"
-fn operation_broken(event: &Event) -> bool {
-    match event.operation.applied(event.read, event.operand) {
-        None => event.operand != 0,
-        Some(written) => event.kind != Kind::Amo || event.written != written,
-    }
+        || event.has_operation() && event.kind != Kind::Amo
+        || !event.has_operation() && event.operand != 0
 }
 
 /// 8: "both acquires or both releases at once"; a load or LR "with release and no acquire"; "a

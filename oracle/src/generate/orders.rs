@@ -1,9 +1,7 @@
 //! Orders of a table's memory events, and outcomes that orders have.
 
 use super::prng::Prng;
-use crate::rules::{
-    determined_returns, first_broken, last_value, steady_rules, value_of, Axiom, Write,
-};
+use crate::rules::{determined_returns, is_lawful, last_value, steady_rules, value_of, Write};
 use crate::table::{names_location, Kind, Table};
 
 /// How many random orders are tried for a lawful one.
@@ -55,15 +53,6 @@ fn extension_of(
 /// A random order that is lawful, if one is met.
 pub fn lawful_order(prng: &mut Prng, table: &Table) -> Option<Vec<usize>> {
     (0..TRIES).map(|_| linear_extension(prng, table)).find(|order| is_lawful(table, order))
-}
-
-/// "An order is lawful if, with the returns that it determines, preserved order, load value
-/// and atomicity hold."
-fn is_lawful(table: &Table, order: &[usize]) -> bool {
-    matches!(
-        first_broken(table, order, &determined_returns(table, order)),
-        None | Some(Axiom::ValueRead { .. } | Axiom::FinalValue { .. })
-    )
 }
 
 /// A random order of all memory events.
