@@ -2,7 +2,9 @@
 
 pub mod candidate;
 pub mod candidates;
+pub mod condition;
 pub mod encode;
+pub mod following;
 pub mod generate;
 pub mod layout;
 pub mod litmus;
@@ -17,5 +19,7 @@ pub mod stream;
 pub mod suite;
 pub mod table;
 pub mod tests;
+pub mod text;
+pub mod text_test;
 pub mod walks;
 pub mod writes;

@@ -14,6 +14,7 @@ pub mod prng;
 pub mod random;
 pub mod readings;
 pub mod suites;
+pub mod texts;
 pub mod walks;
 pub mod writes;
 
