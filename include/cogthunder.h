@@ -9,17 +9,18 @@
  *
  * A test is a block of 512 bytes, or three of them in edition 2; docs/FORMAT.md has its fields, the lists and the word, with an
  * example worked in hex. Every function that takes a test takes both editions. Events are numbered from 0 in the order of the
- * table, locations from 0.
+ * table, locations from 0. A test may also be a text, which asks for a condition; three functions take texts, and they take
+ * nothing else.
  *
  * The word
  * --------
- * All functions but ct_table_of, ct_blocks, ct_test_length and ct_next answer by one word, ct_part_of by one in a struct. Byte 0,
- * the lowest, is the case; bytes that the table doesn't name are 0. A set of rules is in bytes 4 and 5: bit r - 1, counted from
- * the lowest of byte 4, is rule r, from 1 to 13.
+ * All functions but ct_table_of, ct_table_of_text, ct_blocks, ct_test_length and ct_next answer by one word, ct_part_of by one in
+ * a struct. Byte 0, the lowest, is the case; bytes that the table doesn't name are 0. A set of rules is in bytes 4 and 5: bit
+ * r - 1, counted from the lowest of byte 4, is rule r, from 1 to 13.
  *
  *   case                   byte 1              byte 2                      byte 3        bytes 4 to 7
  *   0  good                -                   -                           -             ct_rules: set of rules
- *   1  refused             number of refusal   record, or 255 if no        -             -
+ *   1  refused             number of refusal   record, or 255 if no        -             19 and 20: place in the text
  *                                              record is named
  *   2  preserved order     event a             event b                     lowest rule   set of rules
  *   3  load value          reader              -                           -             -
@@ -43,6 +44,9 @@ extern "C" {
 /* The length of a block, and that of the longest test, which is one of edition 2. */
 #define CT_BLOCK 512u
 #define CT_TEST (3u * CT_BLOCK)
+
+/* The length of the longest text. */
+#define CT_TEXT 2048u
 
 /* How many locations a table has values for, and how many events it has room for. */
 #define CT_LOCATIONS 8u
@@ -82,6 +86,9 @@ enum ct_case {
 #define CT_BYTE3(word) ((unsigned)((word) >> 24 & 0xff))
 #define CT_VISITED(word) ((uint32_t)((word) >> 32))
 #define CT_RULES(word) ((uint16_t)((word) >> 32 & 0xffff))
+
+/* Of refusals 19 and 20: the byte of the text, from 0, where it is wrong; the text's length if it ends too soon. */
+#define CT_PLACE(word) ((uint32_t)((word) >> 32))
 
 /* Whether rule r, from 1 to 13, is in a set. */
 #define CT_HAS_RULE(rules, r) (((rules) >> ((r) - 1) & 1) == 1)
@@ -187,6 +194,26 @@ uint64_t ct_search(const uint8_t *test, size_t test_len, const uint8_t *start, s
  */
 uint64_t ct_search_pruned(const uint8_t *test, size_t test_len, const uint8_t *start, size_t start_len, uint8_t *out,
                           size_t out_len, uint64_t allowance);
+
+/*
+ * Reads a test as text, of up to CT_TEXT bytes. Case 0: it is good. Case 1: refusal 1, 5, 7 to 11, 19, 20 or 23. The text needn't
+ * end in a zero byte, and one that does is refused there.
+ */
+uint64_t ct_read_text(const uint8_t *text, size_t text_len);
+
+/*
+ * The table of a text: all zero if reading refuses it, which ct_read_text says. A text states no values: those read, those that
+ * an AMO with an operation writes, and the final ones are 0.
+ */
+struct ct_table ct_table_of_text(const uint8_t *text, size_t text_len);
+
+/*
+ * The search of ct_search over a text, with the same arguments, cases and bytes written. A witness is an order that the rules
+ * allow and that makes the text's condition true; an AMO with an operation writes what this makes of the value that the order
+ * makes it return. Case 1: the refusals of ct_read_text, or 15 to 17.
+ */
+uint64_t ct_search_text(const uint8_t *text, size_t text_len, const uint8_t *start, size_t start_len, uint8_t *out,
+                        size_t out_len, uint64_t allowance);
 
 /* How many blocks a suite has; a last part block counts. */
 uint64_t ct_blocks(const uint8_t *suite, size_t suite_len);

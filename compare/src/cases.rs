@@ -2,9 +2,11 @@
 
 use crate::call::{Call, Entry, OfSuite, Outcome, Reply};
 use crate::comparison::{Comparison, Difference};
+use crate::texts::*;
 use crate::writes::writes;
 use cogthunder::Answer;
 use oracle::encode::encode_in;
+use oracle::generate::calls::any_buffer_length;
 use oracle::generate::candidates::*;
 use oracle::generate::chains::chained_table;
 use oracle::generate::damage::damaged_in;
@@ -12,18 +14,18 @@ use oracle::generate::orders::*;
 use oracle::generate::prng::Prng;
 use oracle::generate::random::{any_table, random_table, wide_table};
 use oracle::generate::readings::random_block;
-use oracle::generate::walks::any_buffer_length;
 use oracle::layout::*;
 use oracle::litmus;
 use oracle::rules::RULE_COUNT;
 use oracle::search::{Engine, MAX_ALLOWANCE};
 use oracle::settled::is_spoiled;
 use oracle::table::*;
+use oracle::walks::Given;
 
-type Round = fn(&mut Prng, &mut Comparison) -> Result<(), Box<Difference>>;
+pub type Round = fn(&mut Prng, &mut Comparison) -> Result<(), Box<Difference>>;
 
 /// As often as they shall come.
-const ROUNDS: [Round; 25] = [
+const ROUNDS: [Round; 39] = [
     candidates,
     candidates,
     candidates,
@@ -49,10 +51,24 @@ const ROUNDS: [Round; 25] = [
     mixed_suite,
     writes,
     writes,
+    text_walk,
+    text_walk,
+    text_walk,
+    text_searches,
+    text_searches,
+    text_witnesses,
+    damaged_texts,
+    damaged_texts,
+    damaged_texts,
+    broken_lines,
+    broken_lines,
+    deep_texts,
+    long_texts,
+    other_bytes,
 ];
 
 /// With so few memory events a table's list of prefixes is short enough to be walked to the end, whatever the table.
-const FEW_EVENTS: usize = 6;
+pub const FEW_EVENTS: usize = 6;
 /// No walk makes more calls than this.
 const MOST_CALLS: usize = 30;
 /// Calls of a round that has no end of its own.
@@ -68,31 +84,32 @@ pub fn round(prng: &mut Prng, comparison: &mut Comparison) -> Result<(), Box<Dif
 }
 
 /// The calls with one test or one suite.
-struct Calls<'a> {
-    comparison: &'a mut Comparison,
-    bytes: Vec<u8>,
+pub struct Calls<'a> {
+    pub comparison: &'a mut Comparison,
+    pub bytes: Vec<u8>,
 }
 
 impl Calls<'_> {
-    fn call(&mut self, entry: Entry) -> Result<Outcome, Box<Difference>> {
+    pub fn call(&mut self, entry: Entry) -> Result<Outcome, Box<Difference>> {
         self.comparison.call(Call { bytes: self.bytes.clone(), entry })
     }
 
-    fn search(
+    pub fn search(
         &mut self,
         prng: &mut Prng,
-        engine: Engine,
+        given: Given,
         start: Vec<u8>,
         room: usize,
         allowance: u64,
     ) -> Result<Outcome, Box<Difference>> {
         let out = some_bytes(prng, room);
-        self.call(Entry::Search { engine, start, out, allowance })
+        self.call(Entry::Search { given, start, out, allowance })
     }
 }
 
-fn any_engine(prng: &mut Prng) -> Engine {
-    *prng.pick(&Engine::ALL)
+/// A block, for either engine.
+fn any_engine(prng: &mut Prng) -> Given {
+    Given::Block(*prng.pick(&Engine::ALL))
 }
 
 pub fn some_bytes(prng: &mut Prng, length: usize) -> Vec<u8> {
@@ -131,7 +148,7 @@ fn any_edition(prng: &mut Prng, table: &Table) -> Edition {
     }
 }
 
-fn any_test(prng: &mut Prng, table: &Table) -> Vec<u8> {
+pub fn any_test(prng: &mut Prng, table: &Table) -> Vec<u8> {
     encode_in(any_edition(prng, table), table)
 }
 
@@ -193,7 +210,7 @@ fn candidate(prng: &mut Prng, calls: &mut Calls, table: &Table, order: &[usize])
 }
 
 /// A list changed in one place: another event or any byte, one entry less, or one more.
-fn nearly(prng: &mut Prng, list: &[u8]) -> Vec<u8> {
+pub fn nearly(prng: &mut Prng, list: &[u8]) -> Vec<u8> {
     let mut list = list.to_vec();
     let at = prng.below(list.len() + 1);
     let entry = if prng.one_in(2) { prng.below(MOST_EVENTS + 1) as u8 } else { prng.bits() as u8 };
@@ -207,7 +224,7 @@ fn nearly(prng: &mut Prng, list: &[u8]) -> Vec<u8> {
 }
 
 /// A table of some size that often has witnesses.
-fn table_with_outcome(prng: &mut Prng, events: usize) -> Table {
+pub fn table_with_outcome(prng: &mut Prng, events: usize) -> Table {
     let harts = 1 + prng.below(MAX_HARTS);
     let locations = 1 + prng.below(3);
     let mut table = random_table(prng, harts, locations, events);
@@ -236,14 +253,18 @@ fn chain_walk(prng: &mut Prng, comparison: &mut Comparison) -> Result<(), Box<Di
 }
 
 fn walk(prng: &mut Prng, calls: &mut Calls, table: &Table) -> Result<(), Box<Difference>> {
+    let engine = any_engine(prng);
+    walk_over(engine, prng, calls, table)
+}
+
+pub fn walk_over(given: Given, prng: &mut Prng, calls: &mut Calls, table: &Table) -> Result<(), Box<Difference>> {
     let memory_events = table.memory_events().len();
     let largest = *prng.pick(&[2, 10, 40, 200]);
-    let engine = any_engine(prng);
     let mut start = Vec::new();
     for _ in 0..1 + prng.below(MOST_CALLS) {
         let room = if prng.one_in(4) { any_buffer_length(prng, memory_events) } else { memory_events };
         let allowance = any_allowance(prng, memory_events, largest);
-        let outcome = calls.search(prng, engine, start.clone(), room, allowance)?;
+        let outcome = calls.search(prng, given, start.clone(), room, allowance)?;
         match outcome.reply {
             Reply::Searched(Answer::Found { len, .. } | Answer::Spent { len, .. }) => {
                 start = outcome.out[..len].to_vec()
@@ -257,7 +278,7 @@ fn walk(prng: &mut Prng, calls: &mut Calls, table: &Table) -> Result<(), Box<Dif
 }
 
 /// Mostly under a bound; as large as can be only if the table is small.
-fn any_allowance(prng: &mut Prng, memory_events: usize, bound: usize) -> u64 {
+pub fn any_allowance(prng: &mut Prng, memory_events: usize, bound: usize) -> u64 {
     let small = prng.below(bound) as u64;
     let largest = if memory_events <= FEW_EVENTS { MAX_ALLOWANCE } else { small };
     *prng.pick(&[0, 1, small, small, small, small, largest, largest, largest, MAX_ALLOWANCE + 1, u64::MAX])
@@ -275,8 +296,13 @@ fn large_searches(prng: &mut Prng, comparison: &mut Comparison) -> Result<(), Bo
 }
 
 fn single_search(prng: &mut Prng, calls: &mut Calls, table: &Table) -> Result<(), Box<Difference>> {
-    let memory_events = table.memory_events().len();
     let engine = any_engine(prng);
+    search_of(engine, prng, calls, table)
+}
+
+/// From any start, good or not.
+pub fn search_of(given: Given, prng: &mut Prng, calls: &mut Calls, table: &Table) -> Result<(), Box<Difference>> {
+    let memory_events = table.memory_events().len();
     let mut start = bytes(&any_start(prng, table));
     if prng.one_in(4) {
         start = nearly(prng, &start);
@@ -287,12 +313,12 @@ fn single_search(prng: &mut Prng, calls: &mut Calls, table: &Table) -> Result<()
     }
     let room = any_buffer_length(prng, memory_events);
     let allowance = any_allowance(prng, memory_events, 100);
-    calls.search(prng, engine, start, room, allowance)?;
+    calls.search(prng, given, start, room, allowance)?;
     Ok(())
 }
 
 /// The front of an order: as much as there is before it is spoiled, with the entry that spoils it, with one more, or any part.
-fn any_start(prng: &mut Prng, table: &Table) -> Vec<usize> {
+pub fn any_start(prng: &mut Prng, table: &Table) -> Vec<usize> {
     let mut order = any_order(prng, table);
     let any = prng.below(order.len() + 1);
     let unspoiled = (0..order.len()).take_while(|&last| !is_spoiled(table, &order[..=last])).count();
@@ -310,14 +336,14 @@ fn witnesses(prng: &mut Prng, comparison: &mut Comparison) -> Result<(), Box<Dif
         if prng.one_in(2) {
             start = bytes(&any_start(prng, &table));
         }
-        let engine = any_engine(prng);
+        let given = any_engine(prng);
         let allowance = any_allowance_of_a_walk(prng);
-        calls.call(Entry::Witnesses { engine, start, allowance, steps: prng.below(SOME_CALLS) })?;
+        calls.call(Entry::Witnesses { given, start, allowance, steps: prng.below(SOME_CALLS) })?;
     }
     Ok(())
 }
 
-fn any_allowance_of_a_walk(prng: &mut Prng) -> u64 {
+pub fn any_allowance_of_a_walk(prng: &mut Prng) -> u64 {
     *prng.pick(&[0, 1, 2, 7, 50, MAX_ALLOWANCE, u64::MAX])
 }
 
@@ -349,7 +375,7 @@ fn every_entry(prng: &mut Prng, calls: &mut Calls, table: &Table) -> Result<(), 
     // The bytes may hold another table than this one, with more prefixes.
     let allowance = any_allowance(prng, MOST_EVENTS, 100);
     for engine in Engine::ALL {
-        calls.search(prng, engine, start.clone(), room, allowance)?;
+        calls.search(prng, Given::Block(engine), start.clone(), room, allowance)?;
     }
     Ok(())
 }

@@ -48,15 +48,18 @@ impl fmt::Display for Difference {
 #[cfg(test)]
 mod tests {
     use super::*;
-    use crate::call::{Entry, Library, OfSuite, Reference, Reply, Walked};
+    use crate::call::{Entry, OfSuite, Reply, Walked};
     use crate::cases::round;
     use crate::lent::Room;
+    use crate::library::Library;
+    use crate::reference::Reference;
     use cogthunder::{Answer, Axiom, Rules};
     use oracle::encode::{encode, seal};
     use oracle::generate::prng::Prng;
     use oracle::layout::{BLOCK_LENGTH, CHECK_AT, EVENTS_AT, LONGEST_TEST};
     use oracle::litmus;
     use oracle::search::Engine;
+    use oracle::walks::Given;
 
     /// Calls enough to meet the faults below.
     const CALLS: u64 = 20_000;
@@ -112,8 +115,10 @@ mod tests {
 
     #[test]
     fn a_wrong_count_is_shown_by_one_event() {
-        let found = difference(|_, outcome| {
-            if let Reply::Searched(Answer::Spent { visited, .. }) = &mut outcome.reply {
+        let found = difference(|call, outcome| {
+            if let (false, Reply::Searched(Answer::Spent { visited, .. })) =
+                (call.entry.takes_text(), &mut outcome.reply)
+            {
                 *visited += 1;
             }
         });
@@ -124,8 +129,12 @@ mod tests {
     #[test]
     fn a_spoiled_prefix_that_is_extended_is_shown_by_two_events() {
         let found = difference(|call, outcome| {
-            if let Entry::Search { engine: Engine::Second, start, out, allowance } = call.entry.clone() {
-                let entry = Entry::Search { engine: Engine::First, start, out, allowance };
+            let pruned = Given::Block(Engine::Second);
+            if let Entry::Search { given, start, out, allowance } = call.entry.clone() {
+                if given != pruned {
+                    return;
+                }
+                let entry = Entry::Search { given: Given::Block(Engine::First), start, out, allowance };
                 *outcome = Reference.outcome(&Call { bytes: call.bytes.clone(), entry });
             }
         });
@@ -191,8 +200,43 @@ mod tests {
                 *outcome = Reference.outcome(&Call { bytes, entry: Entry::Read });
             }
         });
-        assert_eq!(found.reference.reply, Reply::Refused { number: 2, record: None });
+        assert_eq!(found.reference.reply, Reply::Refused { number: 2, record: None, place: None });
         assert_ne!(found.library.reply, found.reference.reply);
+    }
+
+    #[test]
+    fn a_place_that_is_one_byte_late_is_shown_by_the_empty_text() {
+        let found = difference(|_, outcome| {
+            if let Reply::Refused { place: Some(place), .. } = &mut outcome.reply {
+                *place += 1;
+            }
+        });
+        assert!(found.call.bytes.is_empty());
+        assert_eq!(found.reference.reply, Reply::Refused { number: 19, record: None, place: Some(0) });
+    }
+
+    #[test]
+    fn a_ninth_level_refused_by_19_is_shown_by_nine_levels() {
+        let found = difference(|_, outcome| {
+            if let Reply::Refused { number: number @ 20, .. } = &mut outcome.reply {
+                *number = 19;
+            }
+        });
+        assert!(matches!(found.reference.reply, Reply::Refused { number: 20, place: Some(_), .. }));
+        // A blank line, one initial value, and levels; nothing of the ninth one but its first byte.
+        assert!(found.call.bytes.starts_with(b"\n") && found.call.bytes.len() <= 3 + 8 * "( r0=0 and ".len() + 1);
+    }
+
+    #[test]
+    fn a_witness_of_a_text_that_is_missed_is_shown_by_two_events_at_most() {
+        let found = difference(|call, outcome| {
+            if let (true, Reply::Searched(Answer::Found { visited, .. })) =
+                (call.entry.takes_text(), outcome.reply.clone())
+            {
+                outcome.reply = Reply::Searched(Answer::NoneLeft { visited });
+            }
+        });
+        assert!(matches!(found.reference.reply, Reply::Searched(Answer::Found { len: 1 | 2, .. })));
     }
 
     #[test]

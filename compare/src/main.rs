@@ -4,21 +4,26 @@ mod call;
 mod cases;
 mod comparison;
 mod lent;
+mod library;
 mod litmus;
 mod pages;
+mod reference;
 mod shrink;
 mod tally;
+mod texts;
 mod writes;
 
-use call::{Library, Reference};
 use comparison::{Comparison, Difference};
 use lent::Room;
+use library::Library;
 use oracle::generate::prng::Prng;
+use reference::Reference;
 use std::process::ExitCode;
 use std::time::{Duration, Instant};
 
 const USAGE: &str = "usage: compare [--calls N] [--seconds S] [--seed X] [--guard-pages]
        compare litmus, with the lines of `scripts/litmus --blocks` on standard input
+       compare texts, which reads a dozen texts with every byte changed to some twenty others, and cut at each length
 
 Makes N calls (100000), or calls for S seconds, drawn by the seed X (1). With --guard-pages each slice that is lent lies
 beside a page that must not be touched. Exit status: 0 no difference, 1 a difference, 2 other arguments.";
@@ -49,8 +54,10 @@ fn options(mut arguments: impl Iterator<Item = String>) -> Option<Options> {
 }
 
 fn main() -> ExitCode {
-    if std::env::args().nth(1).as_deref() == Some("litmus") {
-        return litmus::run();
+    match std::env::args().nth(1).as_deref() {
+        Some("litmus") => return litmus::run(),
+        Some("texts") => return run_texts(),
+        _ => {}
     }
     match options(std::env::args().skip(1)) {
         Some(options) => run(&options),
@@ -80,6 +87,21 @@ fn run(options: &Options) -> ExitCode {
     }
     println!("  0 differences");
     ExitCode::SUCCESS
+}
+
+/// Reads every change of some texts, and prints how many there are.
+fn run_texts() -> ExitCode {
+    let mut comparison = Comparison::new(Reference, Library::new(Room::with_guard_bytes));
+    match texts::every_change(&mut comparison) {
+        Ok(count) => {
+            println!("texts: {count} changed or cut, each read as by the independent program");
+            ExitCode::SUCCESS
+        }
+        Err(difference) => {
+            println!("texts: DIFFERENCE; the smallest text found with a difference:\n{difference}");
+            ExitCode::FAILURE
+        }
+    }
 }
 
 fn rounds(comparison: &mut Comparison, options: &Options, begin: Instant) -> Result<(), Box<Difference>> {

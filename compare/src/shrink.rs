@@ -6,8 +6,8 @@ use oracle::encode::seal;
 use oracle::layout::*;
 use oracle::raw::RawTable;
 use oracle::record::RawEvent;
-use oracle::search::Engine;
 use oracle::stream::Stream;
+use oracle::walks::Given;
 
 /// Takes smaller calls as long as one has the property. Each has fewer events, shorter lists, a smaller number or a
 /// smaller byte, so that this ends.
@@ -21,12 +21,25 @@ pub fn shrink(mut call: Call, mut has_property: impl FnMut(&Call) -> bool) -> Ca
     }
 }
 
-fn smaller_calls(call: &Call) -> impl Iterator<Item = Call> + '_ {
+fn smaller_calls(call: &Call) -> Box<dyn Iterator<Item = Call> + '_> {
+    let entries = smaller_entries(&call.entry).into_iter().map(|entry| Call { entry, ..call.clone() });
+    let with = |bytes| Call { bytes, ..call.clone() };
+    if call.entry.takes_text() {
+        return Box::new(smaller_texts(&call.bytes).map(with).chain(entries));
+    }
     let (edition, events) = records(&call.bytes).unwrap_or((Edition::One, 0));
     let without_events = (0..events).filter(move |_| events > 1).map(move |k| without_event(edition, call, k));
-    let entries = smaller_entries(&call.entry).into_iter().map(|entry| Call { entry, ..call.clone() });
-    let tests = smaller_tests(call).map(|bytes| Call { bytes, ..call.clone() });
-    without_events.chain(entries).chain(tests)
+    Box::new(without_events.chain(entries).chain(smaller_tests(call).map(with)))
+}
+
+/// Texts without one of their lines, without their last half, and without one of their bytes.
+fn smaller_texts(text: &[u8]) -> impl Iterator<Item = Vec<u8>> + '_ {
+    let lines: Vec<&[u8]> = text.split_inclusive(|&byte| byte == b'\n').collect();
+    let without_line = |k: usize| [&lines[..k], &lines[k + 1..]].concat().concat();
+    let without_lines: Vec<Vec<u8>> = (0..lines.len()).map(without_line).collect();
+    let half = (text.len() > 1).then(|| text[..text.len() / 2].to_vec());
+    let without_byte = |at: usize| [&text[..at], &text[at + 1..]].concat();
+    without_lines.into_iter().chain(half).chain((0..text.len()).map(without_byte))
 }
 
 /// The edition that has tests of this length.
@@ -88,13 +101,12 @@ fn without_event(edition: Edition, call: &Call, k: usize) -> Call {
             Entry::Rules { returned: returned_without(&returned, k), a: renumbered(a, k), b: renumbered(b, k) }
         }
         Entry::Returns { order, out } => Entry::Returns { order: list(&order), out },
-        Entry::Search { engine, start, out, allowance } => {
-            Entry::Search { engine, start: list(&start), out, allowance }
+        Entry::Search { given, start, out, allowance } => Entry::Search { given, start: list(&start), out, allowance },
+        Entry::Witnesses { given, start, allowance, steps } => {
+            Entry::Witnesses { given, start: list(&start), allowance, steps }
         }
-        Entry::Witnesses { engine, start, allowance, steps } => {
-            Entry::Witnesses { engine, start: list(&start), allowance, steps }
-        }
-        entry @ (Entry::Read | Entry::Write { .. } | Entry::Suite(_) | Entry::BothEngines { .. }) => entry,
+        entry @ (Entry::Read | Entry::ReadText | Entry::TableOfText) => entry,
+        entry @ (Entry::Write { .. } | Entry::Suite(_) | Entry::BothEngines { .. }) => entry,
     };
     Call { bytes, entry }
 }
@@ -138,7 +150,7 @@ fn smaller_numbers(number: u64) -> impl Iterator<Item = u64> {
 fn smaller_entries(entry: &Entry) -> Vec<Entry> {
     let mut entries = Vec::new();
     match entry {
-        Entry::Read => {}
+        Entry::Read | Entry::ReadText | Entry::TableOfText => {}
         Entry::Suite(asked) => entries.extend(smaller_asked(asked).into_iter().map(Entry::Suite)),
         Entry::Write { table, out } => {
             let with = |table, out: &[u8]| Entry::Write { table: Box::new(table), out: out.to_vec() };
@@ -159,16 +171,16 @@ fn smaller_entries(entry: &Entry) -> Vec<Entry> {
             entries.extend(shorter(order).map(|order| Entry::Returns { order, out: out.clone() }));
             entries.extend(shorter(out).map(|out| Entry::Returns { order: order.clone(), out }));
         }
-        Entry::Search { engine, start, out, allowance } => {
-            entries.extend(smaller_searches(*engine, start, out, *allowance))
+        Entry::Search { given, start, out, allowance } => {
+            entries.extend(smaller_searches(*given, start, out, *allowance))
         }
         Entry::BothEngines { allowance } => {
             entries.extend(smaller_numbers(*allowance).map(|allowance| Entry::BothEngines { allowance }))
         }
-        Entry::Witnesses { engine, start, allowance, steps } => {
+        Entry::Witnesses { given, start, allowance, steps } => {
             let with = |start: &[u8], allowance, steps| {
-                let (engine, start) = (*engine, start.to_vec());
-                Entry::Witnesses { engine, start, allowance, steps }
+                let (given, start) = (*given, start.to_vec());
+                Entry::Witnesses { given, start, allowance, steps }
             };
             entries.extend(shorter(start).map(|start| with(&start, *allowance, *steps)));
             entries.extend(smaller_numbers(*allowance).map(|allowance| with(start, allowance, *steps)));
@@ -186,10 +198,10 @@ fn smaller_asked(asked: &OfSuite) -> Vec<OfSuite> {
     }
 }
 
-fn smaller_searches(engine: Engine, start: &[u8], out: &[u8], allowance: u64) -> Vec<Entry> {
+fn smaller_searches(given: Given, start: &[u8], out: &[u8], allowance: u64) -> Vec<Entry> {
     let with = |start: &[u8], out: &[u8], allowance| {
         let (start, out) = (start.to_vec(), out.to_vec());
-        Entry::Search { engine, start, out, allowance }
+        Entry::Search { given, start, out, allowance }
     };
     let starts = shorter(start).map(|start| with(&start, out, allowance));
     let buffers = shorter(out).map(|out| with(start, &out, allowance));

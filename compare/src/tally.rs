@@ -4,31 +4,39 @@ use crate::call::{Call, Entry, Outcome, Reply};
 use cogthunder::{Answer, Axiom, Rules};
 use oracle::layout::LONGEST_TEST;
 use oracle::search::Engine;
+use oracle::walks::Given;
 use std::collections::BTreeMap;
 use std::fmt;
 
-/// What a call can be refused by.
+/// What a call that takes no text can be refused by.
 const REFUSALS: std::ops::RangeInclusive<u8> = 1..=18;
+/// What a call on a text can be refused by.
+const TEXT_REFUSALS: [u8; 13] = [1, 5, 7, 8, 9, 10, 11, 15, 16, 17, 19, 20, 23];
 /// What a table can be refused by.
 const TABLE_REFUSALS: [u8; 8] = [1, 5, 6, 7, 8, 9, 10, 11];
 const RULES: std::ops::RangeInclusive<u8> = 1..=13;
 
 const VERDICTS: [&str; 6] = ["allowed", "preserved order", "load value", "atomicity", "value read", "final value"];
-/// Of the first engine, and of the second.
-const SEARCHES: [[&str; 3]; 2] =
-    [["found", "none left", "spent"], ["pruned found", "pruned none left", "pruned spent"]];
+/// Of the first engine, of the second, and of texts.
+const SEARCHES: [[&str; 3]; 3] = [
+    ["found", "none left", "spent"],
+    ["pruned found", "pruned none left", "pruned spent"],
+    ["text found", "text none left", "text spent"],
+];
 
 #[derive(Default)]
 pub struct Tally {
     pub calls: u64,
     entries: BTreeMap<&'static str, u64>,
     refusals: BTreeMap<u8, u64>,
+    text_refusals: BTreeMap<u8, u64>,
     verdicts: BTreeMap<&'static str, u64>,
     /// In how many sets each rule was: of verdicts, and of pairs.
     rules: BTreeMap<u8, u64>,
     searches: BTreeMap<&'static str, u64>,
-    /// Good tests of edition 2.
+    /// Good tests of edition 2, and good texts.
     good_in_two: u64,
+    good_texts: u64,
     written: u64,
     not_written: BTreeMap<u8, u64>,
 }
@@ -44,8 +52,12 @@ fn verdict_name(axiom: &Axiom) -> &'static str {
 }
 
 fn search_name(entry: &Entry, answer: &Answer) -> &'static str {
-    let is_pruned = matches!(entry, Entry::Search { engine: Engine::Second, .. });
-    SEARCHES[usize::from(is_pruned)][match answer {
+    let given = match entry {
+        Entry::Search { given: Given::Text, .. } => 2,
+        Entry::Search { given: Given::Block(Engine::Second), .. } => 1,
+        _ => 0,
+    };
+    SEARCHES[given][match answer {
         Answer::Found { .. } => 0,
         Answer::NoneLeft { .. } => 1,
         Answer::Spent { .. } => 2,
@@ -66,7 +78,11 @@ impl Tally {
             self.count_write(&outcome.reply);
         }
         match &outcome.reply {
-            Reply::Refused { number, .. } => *self.refusals.entry(*number).or_default() += 1,
+            Reply::Refused { number, .. } => {
+                let is_text = call.entry.takes_text();
+                let refusals = if is_text { &mut self.text_refusals } else { &mut self.refusals };
+                *refusals.entry(*number).or_default() += 1;
+            }
             Reply::Broken(axiom) => {
                 *self.verdicts.entry(verdict_name(axiom)).or_default() += 1;
                 if let Axiom::PreservedOrder { rules, .. } = axiom {
@@ -76,6 +92,7 @@ impl Tally {
             Reply::Rules(rules) => self.count_rules(*rules),
             Reply::Good if call.entry.name() == "verdict" => *self.verdicts.entry(VERDICTS[0]).or_default() += 1,
             Reply::Searched(answer) => *self.searches.entry(search_name(&call.entry, answer)).or_default() += 1,
+            Reply::Table(_) if call.entry == Entry::ReadText => self.good_texts += 1,
             Reply::Table(_) if call.bytes.len() == LONGEST_TEST => self.good_in_two += 1,
             _ => {}
         }
@@ -91,6 +108,8 @@ impl Tally {
     /// What no call gave, though some call can.
     pub fn unmet(&self) -> Vec<String> {
         let refusals = REFUSALS.filter(|n| !self.refusals.contains_key(n)).map(|n| format!("refusal {n}"));
+        let of_texts = TEXT_REFUSALS.iter().filter(|&n| !self.text_refusals.contains_key(n));
+        let of_texts = of_texts.map(|n| format!("refusal {n} of a text"));
         let rules = RULES.filter(|n| !self.rules.contains_key(n)).map(|n| format!("rule {n}"));
         let verdicts = VERDICTS.iter().filter(|&name| !self.verdicts.contains_key(name)).map(|name| name.to_string());
         let searches =
@@ -99,7 +118,10 @@ impl Tally {
         let not_written = not_written.map(|n| format!("refusal {n} of a table"));
         let written = (self.written == 0).then(|| "a table that is written".to_string());
         let in_two = (self.good_in_two == 0).then(|| "a good test of edition 2".to_string());
-        refusals.chain(rules).chain(verdicts).chain(searches).chain(not_written).chain(written).chain(in_two).collect()
+        let text = (self.good_texts == 0).then(|| "a good text".to_string());
+        let refusals = refusals.chain(of_texts).chain(not_written);
+        let good = written.into_iter().chain(in_two).chain(text);
+        refusals.chain(rules).chain(verdicts).chain(searches).chain(good).collect()
     }
 }
 
@@ -110,8 +132,9 @@ fn listed<K: fmt::Display>(counts: &BTreeMap<K, u64>) -> String {
 impl fmt::Display for Tally {
     fn fmt(&self, f: &mut fmt::Formatter) -> fmt::Result {
         writeln!(f, "  calls    {}", listed(&self.entries))?;
-        writeln!(f, "  read     good tests of edition 2: {}", self.good_in_two)?;
+        writeln!(f, "  read     good tests of edition 2: {}, good texts: {}", self.good_in_two, self.good_texts)?;
         writeln!(f, "  refusals {}", listed(&self.refusals))?;
+        writeln!(f, "  of texts {}", listed(&self.text_refusals))?;
         writeln!(f, "  verdicts {}", listed(&self.verdicts))?;
         writeln!(f, "  rules    {}", listed(&self.rules))?;
         writeln!(f, "  searches {}", listed(&self.searches))?;

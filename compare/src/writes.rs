@@ -62,7 +62,7 @@ fn damage(prng: &mut Prng, table: &mut RawTable) {
     }
 }
 
-fn damage_event(prng: &mut Prng, event: &mut RawEvent) {
+pub fn damage_event(prng: &mut Prng, event: &mut RawEvent) {
     match prng.below(12) {
         0 => event.kind = any_byte(prng),
         1 => event.kind = *prng.pick(&Kind::ALL) as u8,

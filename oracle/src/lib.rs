@@ -21,5 +21,6 @@ pub mod table;
 pub mod tests;
 pub mod text;
 pub mod text_test;
+pub mod texts;
 pub mod walks;
 pub mod writes;

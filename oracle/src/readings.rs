@@ -19,7 +19,7 @@ pub fn print_readings(input: &[u8]) -> Result<String, Malformed> {
 }
 
 /// Header, initial values, final values, then each event, parted by slashes.
-fn table_line(table: &Table) -> String {
+pub fn table_line(table: &Table) -> String {
     let count = table.events.len();
     let mut parts = vec![
         format!("table {} {} {count} {}", table.harts, table.locations, table.stated),

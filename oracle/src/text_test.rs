@@ -25,6 +25,15 @@ pub enum TextRefusal {
     Declined(Refusal),
 }
 
+impl TextRefusal {
+    pub fn line(&self) -> Line {
+        match self {
+            TextRefusal::Illegal(breach) => breach.line,
+            TextRefusal::Declined(refusal) => refusal.line,
+        }
+    }
+}
+
 impl From<Breach> for TextRefusal {
     fn from(breach: Breach) -> TextRefusal {
         TextRefusal::Illegal(breach)

@@ -1,10 +1,11 @@
 //! Searches of tests as text.
 
 use oracle::encode::encode_fitting;
+use oracle::generate::corner_texts::{corner_texts, CornerText};
 use oracle::generate::orders::{bytes, lawful_order, state_outcome};
 use oracle::generate::prng::Prng;
 use oracle::generate::random::random_table;
-use oracle::generate::texts::text_of;
+use oracle::generate::texts::{text_of, text_with};
 use oracle::layout::MOST_EVENTS;
 use oracle::litmus::*;
 use oracle::readings::spaced;
@@ -34,46 +35,13 @@ fn answered(text: &[u8], start: &[u8], room: usize, allowance: u64) -> String {
     line
 }
 
-/// The bytes of a stored text.
-fn unquoted(stored: &str) -> Vec<u8> {
-    let inner = stored.strip_prefix('"').and_then(|rest| rest.strip_suffix('"'));
-    let (mut bytes, mut rest) = (Vec::new(), inner.expect("a text stands in quotes").bytes());
-    while let Some(byte) = rest.next() {
-        bytes.push(match byte {
-            b'\\' => match rest.next() {
-                Some(b'n') => b'\n',
-                Some(b'r') => b'\r',
-                Some(b't') => b'\t',
-                Some(b'x') => {
-                    let digits: Vec<u8> = rest.by_ref().take(2).collect();
-                    u8::from_str_radix(std::str::from_utf8(&digits).unwrap(), 16).unwrap()
-                }
-                other => panic!("no such escape: {other:?}"),
-            },
-            byte => byte,
-        });
-    }
-    bytes
-}
-
 #[test]
-fn corner_texts() {
-    let stored = include_str!("corner_texts.txt").split("\n\n").skip(1);
-    for case in stored.clone() {
-        let [what, text, call, answer] = case.lines().collect::<Vec<_>>()[..] else {
-            panic!("a text has four lines: {case}");
-        };
-        let part = |name: &str| {
-            let parts = call.split(", ").filter_map(|part| part.strip_prefix(name));
-            parts.last().expect("each part of a call is given").trim()
-        };
-        let number = |digits: &str| digits.parse::<u64>().expect("a number");
-        let start = part("start").split(' ').filter(|&word| word != "empty");
-        let start: Vec<u8> = start.map(|event| number(event) as u8).collect();
-        let (room, allowance) = (number(part("room")) as usize, number(part("allowance")));
-        assert_eq!(answered(&unquoted(text), &start, room, allowance), answer, "{what}");
+fn the_stored_corner_texts() {
+    let stored = corner_texts();
+    for CornerText { what, text, start, room, allowance, answer } in &stored {
+        assert_eq!(answered(text, start, *room, *allowance), *answer, "{what}");
     }
-    assert_eq!(stored.count(), 89);
+    assert_eq!(stored.len(), 89);
 }
 
 /// A search's answers from the empty start until none are left.
@@ -136,10 +104,7 @@ fn a_text_that_asks_for_what_a_table_states_has_the_witnesses_of_its_block() {
 
 /// Whether some lawful order of these events makes a condition true.
 fn is_found(events: Vec<Event>, condition: &str) -> bool {
-    let test = table(events);
-    let document = text_of(&test).to_string();
-    let (before_condition, _) = document.trim_end().rsplit_once('\n').expect("a text has lines");
-    let text = format!("{before_condition}\n{condition}\n");
+    let text = text_with(&table(events), condition);
     answered(text.as_bytes(), &[], MOST_EVENTS, ALLOWANCE).starts_with("found")
 }
 
@@ -164,7 +129,9 @@ fn conditions_mean_what_they_say() {
 }
 
 /// What a level of a condition is, and what it makes of the truth of what is inside it.
-const LEVELS: [(&str, &str, fn(bool) -> bool); 5] = [
+type Level = (&'static str, &'static str, fn(bool) -> bool);
+
+const LEVELS: [Level; 5] = [
     ("not ", "", |inner| !inner),
     ("( ", " or r0=1 )", |inner| inner),
     ("( r0=0 or ", " )", |_| true),

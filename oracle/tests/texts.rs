@@ -3,6 +3,7 @@
 use oracle::condition::Condition;
 use oracle::encode::encode_raw;
 use oracle::generate::prng::Prng;
+use oracle::generate::text_cases::{open_numbers, text};
 use oracle::layout::{Edition, MAX_LOCATIONS};
 use oracle::litmus::table;
 use oracle::operation::Operation;
@@ -22,28 +23,7 @@ fn declined(line: Line, record: Option<usize>) -> TextRefusal {
 
 /// The refusal of a text of some lines, initial values and a condition.
 fn refusal(lines: &[&str], initial: &str, condition: &str) -> Option<TextRefusal> {
-    let lines: String = lines.iter().map(|line| format!("{line}\n")).collect();
-    read_text(format!("{lines}\n{initial}\n{condition}\n").as_bytes()).err()
-}
-
-/// The texts in which one number is left open, with the largest that may stand there.
-fn open_numbers() -> Vec<(String, String, u64)> {
-    let (byte, value, mask) = (255, 65_535, 4_294_967_295);
-    let fields = [byte, byte, byte, byte, mask, mask, mask, value, value, byte, byte];
-    let tail = "\n\n0\nr0=0\n";
-    let in_line = fields.iter().enumerate().map(|(field, &most)| {
-        ("0 ".repeat(field), " 0".repeat(fields.len() - field - 1) + tail, most)
-    });
-    let elsewhere = [
-        ("\n", "\nr0=0\n", value),
-        ("\n0 0 ", " 0\nr0=0\n", value),
-        ("\n0\nr", "=0\n", byte),
-        ("\n0\nx", "=0\n", byte),
-        ("\n0\nr0=", "\n", value),
-        ("\n0\nnot x0=", "\n", value),
-    ];
-    let owned = |(before, behind, most): (&str, &str, u64)| (before.into(), behind.into(), most);
-    in_line.chain(elsewhere.map(owned)).collect()
+    read_text(text(lines, initial, condition).as_bytes()).err()
 }
 
 #[test]

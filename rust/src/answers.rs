@@ -4,7 +4,7 @@ use crate::rules::Rules;
 use std::error::Error;
 use std::fmt;
 
-/// A line `N<TAB>words` for each refusal, from 1.
+/// A line `N<TAB>words` for each refusal, by number.
 const REFUSALS: &str = include_str!("../../docs/refusals.txt");
 
 /// Why the bench declines its input. Nothing was altered.
@@ -15,20 +15,33 @@ const REFUSALS: &str = include_str!("../../docs/refusals.txt");
 /// assert_eq!(refusal.number, 4);
 /// assert_eq!(refusal.to_string(), "refused 4: the edition in byte 4 is neither 1 nor 2");
 /// ```
+///
+/// In a text, 19 and 20 say at which byte:
+///
+/// ```
+/// let refusal = cogthunder::read_text(b"1 0 0 07 0 0 0 0 0 0 0\n\n0\nr0=0\n").unwrap_err();
+/// assert_eq!((refusal.number, refusal.place), (19, Some(7)));
+/// assert_eq!(
+///     refusal.to_string(),
+///     "refused 19 at byte 7: no legal text has this byte in this place, or the text ends too soon"
+/// );
+/// ```
 #[derive(Clone, Copy, PartialEq, Eq, Hash, Debug)]
 #[non_exhaustive]
 pub struct Refusal {
     /// The number of the refusal, from 1.
     pub number: u8,
-    /// The lowest record that breaks the line, for refusals 7 to 10.
+    /// The lowest record that breaks the line, for refusals 7 to 10. In a text event k has record k.
     pub record: Option<u8>,
+    /// The byte of a text where refusals 19 and 20 find it wrong, from 0. Where the text ends too soon, it is the length.
+    pub place: Option<u32>,
 }
 
 impl Refusal {
     /// What is wrong, in a sentence.
     pub fn words(&self) -> &'static str {
-        let line = REFUSALS.lines().nth(usize::from(self.number) - 1);
-        line.and_then(|line| line.split_once('\t')).expect("each refusal has its line").1
+        let mut lines = REFUSALS.lines().filter_map(|line| line.split_once('\t'));
+        lines.find(|(number, _)| number.parse() == Ok(self.number)).expect("each refusal has its line").1
     }
 }
 
@@ -37,6 +50,9 @@ impl fmt::Display for Refusal {
         write!(f, "refused {}", self.number)?;
         if let Some(record) = self.record {
             write!(f, " at record {record}")?;
+        }
+        if let Some(place) = self.place {
+            write!(f, " at byte {place}")?;
         }
         write!(f, ": {}", self.words())
     }
@@ -156,22 +172,27 @@ mod tests {
 
     #[test]
     fn each_refusal_has_its_line() {
-        let numbers: Vec<u8> = (1..=18).collect();
+        let numbers: Vec<u8> = (1..=20).chain([23]).collect();
         let listed: Vec<u8> =
             REFUSALS.lines().map(|line| line.split_once('\t').expect("a tab").0.parse().expect("a number")).collect();
         assert_eq!(listed, numbers);
         for number in numbers {
-            assert!(!Refusal { number, record: None }.words().is_empty());
+            assert!(!Refusal { number, record: None, place: None }.words().is_empty());
         }
     }
 
     #[test]
     fn answers_are_words() {
-        let refusal = Refusal { number: 10, record: Some(3) };
+        let refusal = Refusal { number: 10, record: Some(3), place: None };
         assert_eq!(
             refusal.to_string(),
             "refused 10 at record 3: the SC isn't paired: the nearest earlier LR or SC on its hart isn't an LR to the \
              same location"
+        );
+        let refusal = Refusal { number: 20, record: None, place: Some(0) };
+        assert_eq!(
+            refusal.to_string(),
+            "refused 20 at byte 0: a `not` or a bracket begins a ninth level here, and a condition has at most eight"
         );
         let rules = Rules::from_iter([4, 5]);
         let broken = Verdict::Broken(Axiom::PreservedOrder { a: 0, b: 2, rules });

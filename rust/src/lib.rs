@@ -27,6 +27,25 @@
 //! assert_eq!(Witnesses::of(block)?.next(), None);
 //! # Ok::<(), cogthunder::Refusal>(())
 //! ```
+//!
+//! A test may also be a text of up to 2,048 bytes, which asks for a condition instead of stated values; [`read_text`] says how
+//! it is written. [`search_text`] and [`Witnesses::of_text`] take it, and all other functions take blocks only:
+//!
+//! ```
+//! use cogthunder::Witnesses;
+//!
+//! let text = b"2 0 0 0 0 0 0 0 1 0 0\n\
+//!              2 0 1 0 0 0 0 0 1 0 0\n\
+//!              1 1 1 0 0 0 0 0 0 0 0\n\
+//!              1 1 0 0 0 0 0 0 0 0 0\n\
+//!              \n\
+//!              0 0\n\
+//!              ( r2=1 and r3=0 )\n";
+//! let orders: Vec<Vec<u8>> = Witnesses::of_text(text)?.collect();
+//! assert_eq!(orders.len(), 6);
+//! assert_eq!(orders[0], [1, 2, 3, 0]);
+//! # Ok::<(), cogthunder::Refusal>(())
+//! ```
 
 #![deny(missing_docs)]
 
@@ -40,7 +59,10 @@ mod table;
 mod witnesses;
 
 pub use answers::{Answer, Axiom, Refusal, Verdict};
-pub use library::{blocks, next_test, part, read, returns, rules, search, search_pruned, test_length, verdict, write};
+pub use library::{
+    blocks, next_test, part, read, read_text, returns, rules, search, search_pruned, search_text, test_length, verdict,
+    write,
+};
 pub use operation::Operation;
 pub use rules::Rules;
 pub use suite::Tests;
@@ -52,6 +74,9 @@ pub const BLOCK: usize = 512;
 
 /// The length of the longest test, which is one of edition 2.
 pub const TEST: usize = 3 * BLOCK;
+
+/// The length of the longest text.
+pub const TEXT: usize = 2048;
 
 /// A test has at most this many events: room for any order and for any returned list. One of edition 1 has up to 16.
 pub const EVENTS: usize = 30;

@@ -51,6 +51,20 @@ extern "C" {
         allowance: u64,
     ) -> u64;
 
+    fn ct_read_text(text: *const u8, text_len: usize) -> u64;
+
+    fn ct_table_of_text(text: *const u8, text_len: usize) -> Table;
+
+    fn ct_search_text(
+        text: *const u8,
+        text_len: usize,
+        start: *const u8,
+        start_len: usize,
+        out: *mut u8,
+        out_len: usize,
+        allowance: u64,
+    ) -> u64;
+
     fn ct_blocks(suite: *const u8, suite_len: usize) -> u64;
 
     fn ct_part_of(suite: *const u8, suite_len: usize, k: u64) -> Part;
@@ -86,11 +100,18 @@ const SPENT: u8 = 9;
 /// In the place of a record where a refusal names none.
 const NO_RECORD: u8 = 255;
 
+/// The refusals of a text that say at which byte, in bytes 4 to 7 of their word.
+const WITH_PLACE: [u8; 2] = [19, 20];
+
 /// Bytes 0 to 3 of a word, or the refusal that it says.
 fn parts(word: u64) -> Result<[u8; 4], Refusal> {
     let [case, first, second, third, ..] = word.to_le_bytes();
     match case {
-        REFUSED => Err(Refusal { number: first, record: Some(second).filter(|&record| record != NO_RECORD) }),
+        REFUSED => Err(Refusal {
+            number: first,
+            record: Some(second).filter(|&record| record != NO_RECORD),
+            place: Some((word >> u32::BITS) as u32).filter(|_| WITH_PLACE.contains(&first)),
+        }),
         _ => Ok([case, first, second, third]),
     }
 }
@@ -284,6 +305,69 @@ pub fn search_pruned(test: &[u8], start: &[u8], out: &mut [u8], allowance: u64) 
     searched(word)
 }
 
+/// Reads a test as text, and gives its table. It is refused by 1, 5, 7 to 11, 19, 20 and 23.
+///
+/// A text has a line for each event, with the fields of [`Event`] in their order; then a blank line, a line of initial
+/// values, and a line with the condition that is asked for. There `r2=1` says that event 2 returns 1, and `x0=2` that location
+/// 0 ends at 2; these are joined by `not`, `and` and `or`, a bracket around each pair. docs/FORMAT.md has it in full.
+///
+/// No values are stated in the lines: the table has 0 for each value read, for what an AMO with an operation writes, and for
+/// the final values.
+///
+/// ```
+/// use cogthunder::read_text;
+///
+/// // Message passing: hart 0 stores x=1, then y=1; hart 1 loads y, then x.
+/// let text = b"2 0 0 0 0 0 0 0 1 0 0\n\
+///              2 0 1 0 0 0 0 0 1 0 0\n\
+///              1 1 1 0 0 0 0 0 0 0 0\n\
+///              1 1 0 0 0 0 0 0 0 0 0\n\
+///              \n\
+///              0 0\n\
+///              ( r2=1 and r3=0 )\n";
+/// let table = read_text(text)?;
+/// assert_eq!((table.harts, table.locations, table.count), (2, 2, 4));
+/// assert_eq!(table.events[1].written, 1);
+///
+/// // Cut before the condition, it ends too soon.
+/// let refusal = read_text(&text[..93]).unwrap_err();
+/// assert_eq!((refusal.number, refusal.place), (19, Some(93)));
+/// # Ok::<(), cogthunder::Refusal>(())
+/// ```
+pub fn read_text(text: &[u8]) -> Result<Table, Refusal> {
+    let word = unsafe { ct_read_text(text.as_ptr(), text.len()) };
+    parts(word)?;
+    Ok(unsafe { ct_table_of_text(text.as_ptr(), text.len()) })
+}
+
+/// The same search as [`search`] of a test as text: a witness is an order that the rules allow and that makes the condition
+/// true. An AMO with an operation writes what this makes of the value that the order makes it return. It is refused as by
+/// [`read_text`], and by 15 to 17.
+///
+/// [`Witnesses::of_text`](crate::Witnesses::of_text) makes such calls one after the other.
+///
+/// ```
+/// use cogthunder::{search_text, Answer, EVENTS};
+///
+/// // Two harts add 1 to a counter, which is 7 at first.
+/// let text = b"3 0 0 0 0 0 0 0 0 1 1\n3 1 0 0 0 0 0 0 0 1 1\n\n7\n( r0=8 and x0=9 )\n";
+/// let mut out = [0; EVENTS];
+/// let answer = search_text(text, &[], &mut out, 1_000_000)?;
+/// assert_eq!(answer, Answer::Found { len: 2, visited: 4 });
+/// assert_eq!(out[..2], [1, 0]);
+///
+/// // Neither is lost.
+/// let text = b"3 0 0 0 0 0 0 0 0 1 1\n3 1 0 0 0 0 0 0 0 1 1\n\n7\nnot x0=9\n";
+/// assert_eq!(search_text(text, &[], &mut out, 1_000_000)?, Answer::NoneLeft { visited: 4 });
+/// # Ok::<(), cogthunder::Refusal>(())
+/// ```
+pub fn search_text(text: &[u8], start: &[u8], out: &mut [u8], allowance: u64) -> Result<Answer, Refusal> {
+    let word = unsafe {
+        ct_search_text(text.as_ptr(), text.len(), start.as_ptr(), start.len(), out.as_mut_ptr(), out.len(), allowance)
+    };
+    searched(word)
+}
+
 /// What the word of a search says.
 fn searched(word: u64) -> Result<Answer, Refusal> {
     let [case, len, ..] = parts(word)?;
@@ -368,6 +452,16 @@ pub fn next_test(suite: &[u8], k: u64) -> u64 {
 mod tests {
     use super::*;
     use crate::INITIALLY;
+
+    #[test]
+    fn the_word_of_a_refusal_has_a_record_or_a_place() {
+        let refusal = |word: u64| parts(word).expect_err("the word is a refusal's");
+        assert_eq!(refusal(0x0003_0701), Refusal { number: 7, record: Some(3), place: None });
+        assert_eq!(refusal(0x00ff_1701), Refusal { number: 23, record: None, place: None });
+        assert_eq!(refusal(0x00ff_1301), Refusal { number: 19, record: None, place: Some(0) });
+        assert_eq!(refusal(0x0800_00ff_1301), Refusal { number: 19, record: None, place: Some(2048) });
+        assert_eq!(refusal(0x0123_00ff_1401), Refusal { number: 20, record: None, place: Some(0x123) });
+    }
 
     #[test]
     fn the_word_of_a_preserved_order_break_has_the_lowest_rule_and_the_set() {

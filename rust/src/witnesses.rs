@@ -1,14 +1,14 @@
 //! All witnesses of a test, one after the other.
 
 use crate::answers::{Answer, Refusal};
-use crate::library::{search, search_pruned};
+use crate::library::{search, search_pruned, search_text};
 use crate::{EVENTS, LARGEST_ALLOWANCE};
 use std::iter::FusedIterator;
 
 /// How many prefixes one search call visits at most, unless another allowance is chosen.
 const ALLOWANCE: u64 = 1_000_000;
 
-/// An engine: [`search`], or [`search_pruned`].
+/// [`search`], [`search_pruned`], or [`search_text`].
 type Search = fn(&[u8], &[u8], &mut [u8], u64) -> Result<Answer, Refusal>;
 
 /// All witnesses of a test, ascending, each as an order: the numbers of its memory events. An outcome without a witness
@@ -95,6 +95,50 @@ impl<'a> Witnesses<'a> {
     /// ```
     pub fn resume_pruned(test: &'a [u8], start: &[u8]) -> Result<Witnesses<'a>, Refusal> {
         Witnesses::by(search_pruned, test, start)
+    }
+
+    /// From the beginning, of a test as text ([`search_text`]). It is refused as by [`read_text`](crate::read_text).
+    ///
+    /// ```
+    /// use cogthunder::Witnesses;
+    ///
+    /// // Message passing, with a fence between the accesses of each hart: that event 5 misses the data is forbidden.
+    /// let text = |condition: &str| {
+    ///     format!(
+    ///         "2 0 0 0 0 0 0 0 1 0 0\n6 0 0 15 0 0 0 0 0 0 0\n2 0 1 0 0 0 0 0 1 0 0\n\
+    ///          1 1 1 0 0 0 0 0 0 0 0\n6 1 0 15 0 0 0 0 0 0 0\n1 1 0 0 0 0 0 0 0 0 0\n\n0 0\n{condition}\n"
+    ///     )
+    /// };
+    /// let missed = text("( r3=1 and r5=0 )");
+    /// assert_eq!(Witnesses::of_text(missed.as_bytes())?.next(), None);
+    /// let seen = text("( r3=1 and r5=1 )");
+    /// assert_eq!(Witnesses::of_text(seen.as_bytes())?.next(), Some(vec![0, 2, 3, 5]));
+    /// # Ok::<(), cogthunder::Refusal>(())
+    /// ```
+    pub fn of_text(text: &'a [u8]) -> Result<Witnesses<'a>, Refusal> {
+        Witnesses::resume_text(text, &[])
+    }
+
+    /// From a start that an earlier walk over the same text had reached. It is refused as by [`read_text`](crate::read_text),
+    /// and by 15 if no walk over this text could have such a start.
+    ///
+    /// ```
+    /// use cogthunder::{Answer, Witnesses};
+    ///
+    /// let text = b"2 0 0 0 0 0 0 0 1 0 0\n2 0 1 0 0 0 0 0 1 0 0\n1 1 1 0 0 0 0 0 0 0 0\n1 1 0 0 0 0 0 0 0 0 0\n\n0 0\n\
+    ///              ( r2=1 and r3=0 )\n";
+    /// let mut walk = Witnesses::of_text(text)?.allowance(26);
+    /// assert_eq!(walk.step(), Answer::Spent { len: 3, visited: 26 });
+    /// let saved = walk.start().to_vec();
+    /// assert_eq!(saved, [1, 2, 3]);
+    ///
+    /// let orders: Vec<Vec<u8>> = Witnesses::resume_text(text, &saved)?.collect();
+    /// assert_eq!(orders.len(), 6);
+    /// assert_eq!(orders, walk.collect::<Vec<_>>());
+    /// # Ok::<(), cogthunder::Refusal>(())
+    /// ```
+    pub fn resume_text(text: &'a [u8], start: &[u8]) -> Result<Witnesses<'a>, Refusal> {
+        Witnesses::by(search_text, text, start)
     }
 
     fn by(search: Search, test: &'a [u8], start: &[u8]) -> Result<Witnesses<'a>, Refusal> {

@@ -127,6 +127,12 @@ impl Parser {
     }
 }
 
+/// The table of a shape.
+pub fn shape(name: &str) -> Table {
+    let shape = SHAPES.iter().find(|(other, _)| *other == name);
+    Parser::table(shape.expect("there is such a shape").1)
+}
+
 /// The blocks of the set, by name.
 pub fn kept() -> Vec<(String, Vec<u8>)> {
     let shapes = SHAPES.iter().map(|(name, text)| (name.to_string(), Parser::table(text).encode()));

@@ -9,6 +9,8 @@ mod reading;
 mod shapes;
 mod suite;
 mod table;
+mod text;
+mod texts;
 
 use plain::Answer;
 use reading::Refusal;
@@ -128,11 +130,12 @@ fn time_readings(edition: u8, kinds: &[Vec<u8>]) {
 }
 
 /// With the path of the proved suite program it times both of them too. With a word it is the suite program, or times the
-/// second engine.
+/// second engine or texts.
 fn main() {
     match std::env::args().nth(1).as_deref() {
         Some(suite::COMMAND) => return suite::run(),
         Some(pruned::COMMAND) => return pruned::run(),
+        Some(texts::COMMAND) => return texts::run(),
         _ => {}
     }
     time_shapes();

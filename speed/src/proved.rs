@@ -2,6 +2,7 @@
 
 use crate::plain::Answer;
 use crate::reading::Refusal;
+use crate::text::Refused;
 
 #[link(name = "capi", kind = "static")]
 extern "C" {
@@ -26,6 +27,18 @@ extern "C" {
         out_len: usize,
         allowance: u64,
     ) -> u64;
+
+    fn ct_read_text(text: *const u8, text_len: usize) -> u64;
+
+    fn ct_search_text(
+        text: *const u8,
+        text_len: usize,
+        start: *const u8,
+        start_len: usize,
+        out: *mut u8,
+        out_len: usize,
+        allowance: u64,
+    ) -> u64;
 }
 
 const REFUSED: u8 = 1;
@@ -35,6 +48,9 @@ const SPENT: u8 = 9;
 
 /// In the place of a record where a refusal names none.
 const NO_RECORD: u8 = 255;
+
+/// The refusals of a text that have a place, in bytes 4 to 7 of the word.
+const WITH_PLACE: [u8; 2] = [19, 20];
 
 fn refused(line: u8, record: u8) -> Refusal {
     Refusal { line, record: Some(record).filter(|&k| k != NO_RECORD).map(usize::from) }
@@ -81,4 +97,28 @@ pub fn search_pruned(block: &[u8], start: &[u8], out: &mut [u8], allowance: u64)
             allowance,
         )
     })
+}
+
+fn refused_text(word: u64) -> Refused {
+    let [_, line, record, ..] = word.to_le_bytes();
+    match WITH_PLACE.contains(&line) {
+        true => Refused::At { line, place: (word >> 32) as usize },
+        false => Refused::By(refused(line, record)),
+    }
+}
+
+/// Why a text is refused.
+pub fn text_refusal(text: &[u8]) -> Option<Refused> {
+    // The pointer is that of a slice, beside its length.
+    let word = unsafe { ct_read_text(text.as_ptr(), text.len()) };
+    (word as u8 == REFUSED).then(|| refused_text(word))
+}
+
+/// A text's search.
+pub fn search_text(text: &[u8], start: &[u8], out: &mut [u8], allowance: u64) -> Result<Answer, Refused> {
+    // Each pointer is that of a slice, beside its length.
+    let word = unsafe {
+        ct_search_text(text.as_ptr(), text.len(), start.as_ptr(), start.len(), out.as_mut_ptr(), out.len(), allowance)
+    };
+    answer(word).map_err(|_| refused_text(word))
 }

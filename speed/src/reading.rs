@@ -16,7 +16,7 @@ pub struct Refusal {
 
 const BY_LENGTH: Refusal = Refusal { line: 1, record: None };
 
-fn refuse_if(broken: bool, line: u8) -> Result<(), Refusal> {
+pub fn refuse_if(broken: bool, line: u8) -> Result<(), Refusal> {
     if broken {
         return Err(Refusal { line, record: None });
     }
@@ -76,7 +76,13 @@ fn is_check_wrong(block: &[u8]) -> bool {
 
 /// Lines 7 to 11.
 fn refuse_events<M: Mask>(events: &[Event<M>], block: &[u8; BLOCK]) -> Result<(), Refusal> {
-    refuse_at(events.iter().position(|e| fields_broken(e, block[HARTS_AT], block[LOCATIONS_AT])), 7)?;
+    let (harts, locations) = (block[HARTS_AT], block[LOCATIONS_AT]);
+    refuse_last(events, events.iter().position(|e| form_broken(e, harts, locations) || operation_broken(e)))
+}
+
+/// Lines 7 to 11, where line 7 is broken by the record given.
+pub fn refuse_last<M: Mask>(events: &[Event<M>], record: Option<usize>) -> Result<(), Refusal> {
+    refuse_at(record, 7)?;
     refuse_at(events.iter().position(annotations_broken), 8)?;
     refuse_at(dependencies_broken(events), 9)?;
     refuse_at(pairing_broken(events), 10)?;
@@ -196,7 +202,8 @@ fn decode_two(test: &[u8; TEST_TWO]) -> TableTwo {
     t
 }
 
-fn fields_broken<M: Mask>(e: &Event<M>, harts: u8, locations: u8) -> bool {
+/// What line 7 says of blocks and of texts.
+pub fn form_broken<M: Mask>(e: &Event<M>, harts: u8, locations: u8) -> bool {
     let has_place = e.location != 0 || e.addr | e.data | e.ctrl != M::default();
     !(LOAD..=FENCE_TSO).contains(&e.kind)
         || e.hart >= harts
@@ -206,7 +213,6 @@ fn fields_broken<M: Mask>(e: &Event<M>, harts: u8, locations: u8) -> bool {
         || !e.writes() && e.written != 0
         || !e.is_memory() && has_place
         || e.kind == FENCE_TSO && e.flags != 0
-        || operation_broken(e)
 }
 
 fn operation_broken<M>(e: &Event<M>) -> bool {
@@ -276,6 +282,20 @@ fn pairing_broken<M>(events: &[Event<M>]) -> Option<usize> {
     })
 }
 
+/// A table has the fields of the independent program's.
+#[cfg(test)]
+pub fn assert_same<M: Mask + Into<u32>, const N: usize>(t: &Table<M, N>, other: &oracle::table::Table) {
+    assert_eq!((t.count, t.locations, t.stated), (other.events.len(), other.locations, other.stated));
+    assert_eq!((t.initial, t.finals), (other.initial, other.finals));
+    for (e, f) in t.events.iter().zip(&other.events) {
+        let bytes = (f.kind as u8, f.hart as u8, f.location as u8, f.flags);
+        assert_eq!((e.kind, e.hart, e.location, e.flags), bytes);
+        assert_eq!([e.addr, e.data, e.ctrl].map(M::into), [f.address, f.data, f.control]);
+        assert_eq!([e.read, e.written], [f.read, f.written]);
+        assert_eq!([e.operation, e.operand], [f.operation as u8, f.operand]);
+    }
+}
+
 #[cfg(test)]
 mod tests {
     use super::*;
@@ -312,18 +332,6 @@ mod tests {
                 Some(refusal.line)
             }
             (one, other) => panic!("{:?}, but {other:?}", one.err()),
-        }
-    }
-
-    fn assert_same<M: Mask + Into<u32>, const N: usize>(t: &Table<M, N>, other: &oracle::table::Table) {
-        assert_eq!((t.count, t.locations, t.stated), (other.events.len(), other.locations, other.stated));
-        assert_eq!((t.initial, t.finals), (other.initial, other.finals));
-        for (e, f) in t.events.iter().zip(&other.events) {
-            let bytes = (f.kind as u8, f.hart as u8, f.location as u8, f.flags);
-            assert_eq!((e.kind, e.hart, e.location, e.flags), bytes);
-            assert_eq!([e.addr, e.data, e.ctrl].map(M::into), [f.address, f.data, f.control]);
-            assert_eq!([e.read, e.written], [f.read, f.written]);
-            assert_eq!([e.operation, e.operand], [f.operation as u8, f.operand]);
         }
     }
 

@@ -195,13 +195,19 @@ pub fn timed() -> Vec<(&'static str, Table)> {
 pub fn small() -> Vec<Table> {
     let coherence = Builder::default().with(store(0, X, 1)).with(load(1, X, 1)).with(load(1, X, 0));
     let own_store = Builder::default().with(store(0, X, 1)).with(load(0, X, 1));
-    vec![
-        message_passing(Link::None, Link::None),
-        message_passing(Link::Fence, Link::Fence),
-        message_passing(Link::Fence, Link::Dependency),
-        coherence.table(),
-        own_store.table(),
-    ]
+    message_passings().into_iter().chain([coherence.table(), own_store.table()]).collect()
+}
+
+/// Message passing in three ways.
+pub fn message_passings() -> Vec<Table> {
+    let links = [(Link::None, Link::None), (Link::Fence, Link::Fence), (Link::Fence, Link::Dependency)];
+    links.map(|(writer, reader)| message_passing(writer, reader)).to_vec()
+}
+
+/// Each of four harts adds 1 to a location three times.
+pub fn increments() -> Table {
+    let increment = |hart| Event { kind: AMO, written: NEVER + 1, operation: ADD, operand: 1, ..load(hart, X, NEVER) };
+    ring(|b, h| (0..3).fold(b, |b, _| b.with(increment(h)))).table()
 }
 
 /// Tests of edition 2 that are read: every number of events that edition 1 has no room for.

@@ -1,11 +1,15 @@
--- The word of the code's reply to a search call, whose length stands for the prefix in the buffer; and what has room in it.
+-- The word of the code's reply to a search call of a block or a text, whose length stands for the prefix in the buffer; and what has room in it.
 use Prim.Native.Nat.{ℕ, _^_, _<_}
 use Rattle.refusals.specs.Refusals.{refusalOf}
 use Rattle.witness_walk.specs.declared.Ending.{Ending}
 use Rattle.witness_walk.specs.declared.Ending.the-variants.{Found, NoneLeft, Spent}
 use Rattle.search.specs.declared.Reply.{Reply}
 use Rattle.search.specs.declared.Reply.the-variants.{Refused, Answered}
-use Rattle.answer_word.specs.Words.{word, refusalWord}
+use Rattle.text.specs.declared.TextRefusal.{TextRefusal}
+use Rattle.text.specs.declared.TextRefusal.the-variants as text
+use Rattle.bench.specs.declared.TextReply.{TextReply}
+use Rattle.bench.specs.declared.TextReply.the-variants.{Illegal, Searched}
+use Rattle.answer_word.specs.Words.{word, noRecord, refusalWord}
 
 abbrev pub endingWord : Ending → ℕ
 endingWord (Found len v) = word 7 len 0 0 v
@@ -16,6 +20,10 @@ abbrev pub givenWord : Reply → ℕ
 givenWord (Refused r) = refusalWord (refusalOf r)
 givenWord (Answered o) = endingWord o
 
+abbrev pub textGivenWord : TextReply → ℕ
+textGivenWord (Illegal n place) = word 1 n noRecord 0 place
+textGivenWord (Searched r) = givenWord r
+
 -- a length below a byte's bound, a visited number below that of four bytes
 abbrev pub EndingFits : Ending → Type 0
 EndingFits (Found len v) = (len < 256) × (v < 2 ^ 32)
@@ -25,3 +33,12 @@ EndingFits (Spent len v) = (len < 256) × (v < 2 ^ 32)
 abbrev pub GivenFits : Reply → Type 0
 GivenFits (Refused r) = Unit {0}
 GivenFits (Answered o) = EndingFits o
+
+-- a place below the bound of four bytes
+abbrev pub PlaceFits : TextRefusal → Type 0
+PlaceFits (text.At n place) = place < 2 ^ 32
+PlaceFits (text.Table r) = Unit {0}
+
+abbrev pub TextGivenFits : TextReply → Type 0
+TextGivenFits (Illegal n place) = place < 2 ^ 32
+TextGivenFits (Searched r) = GivenFits r

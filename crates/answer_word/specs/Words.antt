@@ -1,10 +1,10 @@
 -- An answer as one word of 64 bits, for C: byte 0 is its case, bytes 1 to 3 its values, bytes 4 to 7 the visited
--- number or, in bytes 4 and 5, a set of rules.
+-- number or the place of a byte or, in bytes 4 and 5, a set of rules.
 use Prim.Native.Nat.{ℕ, _+_, _*_, _-_, _^_}
 use mathlib.Core.List.{List, [], _∷_}
 use lib.ListN.{length, getD}
 use Rattle.lists.specs.Reply.{Reply, refused, answered}
-use Rattle.refusals.specs.Lines.{Refused, accepted, byLine, byRecord}
+use Rattle.refusals.specs.Lines.{Refused, accepted, byLine, byRecord, byPlace}
 use Rattle.model.specs.Verdict.{Verdict, allowed, brokenPpo, brokenLoadValue, brokenAtomicity, brokenValueRead, brokenFinalValue}
 use Rattle.prefixes.specs.Answer.{Answer, found, noneLeft, spent}
 
@@ -15,11 +15,12 @@ word kind a b d visited = kind + 256 * a + 65536 * b + 16777216 * d + 4294967296
 abbrev pub noRecord : ℕ
 noRecord = 255
 
--- 0: good; 1: refused, with the number and the record
+-- 0: good; 1: refused, with the number and the record or the place
 abbrev pub refusalWord : Refused → ℕ
 refusalWord accepted = word 0 0 0 0 0
 refusalWord (byLine n) = word 1 n noRecord 0 0
 refusalWord (byRecord n k) = word 1 n k 0 0
+refusalWord (byPlace n p) = word 1 n noRecord 0 p
 
 -- a set of rules: bit r - 1 for rule r
 unfoldable pub rulesMask : List ℕ → ℕ

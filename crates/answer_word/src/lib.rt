@@ -1,7 +1,9 @@
 // An answer as one word of 64 bits, for C.
+use bench::TextReply;
 use pair_rules::PairRules;
 use refusals::Refusal;
 use search::Reply;
+use text::TextRefusal;
 use verdict::Axiom;
 use verdict::Verdict;
 use witness_walk::Ending;
@@ -12,7 +14,8 @@ ghost use Rattle.rule_sets.specs.RuleMask.{rulesIn};
 ghost use Rattle.verdict.specs.Judged.{axiomOf, judgedOf};
 ghost use Rattle.pair_rules.specs.PairRules.{ruledOf};
 ghost use Rattle.answer_word.specs.Words.{word, refusalWord, rulesMask, lowestOf, verdictWord, judgedWord, ruledWord};
-ghost use Rattle.answer_word.specs.Given.{endingWord, givenWord, EndingFits, GivenFits};
+ghost use Rattle.text.specs.TextRefusals.{textRefusalOf};
+ghost use Rattle.answer_word.specs.Given.{endingWord, givenWord, textGivenWord, EndingFits, GivenFits, PlaceFits, TextGivenFits};
 
 // The case of an answer: byte 0 of its word.
 struct Case;
@@ -69,6 +72,17 @@ pub fn refusal_word(refusal: Refusal) -> u64
         Refusal::None => word(Case::GOOD, 0, 0, 0, 0),
         Refusal::Line(n) => word(Case::REFUSED, n, NO_RECORD, 0, 0),
         Refusal::Record(n, k) => word(Case::REFUSED, n, k.0, 0, 0),
+    }
+}
+
+// A refusal of a text; the place is the upper half of the word.
+pub fn text_refusal_word(refusal: TextRefusal) -> u64
+    requires { ⌜ PlaceFits refusal ⌝ }
+    ensures { λ r. ⌜ r ≡ refusalWord (textRefusalOf refusal) ⌝ }
+{
+    match refusal {
+        TextRefusal::At { number, place } => word(Case::REFUSED, number, NO_RECORD, 0, place as u64),
+        TextRefusal::Table(line) => refusal_word(line),
     }
 }
 
@@ -141,5 +155,15 @@ pub fn reply_word(reply: Reply) -> u64
     match reply {
         Reply::Refused(refusal) => refusal_word(refusal),
         Reply::Answered(ending) => ending_word(ending),
+    }
+}
+
+pub fn text_reply_word(reply: TextReply) -> u64
+    requires { ⌜ TextGivenFits reply ⌝ }
+    ensures { λ r. ⌜ r ≡ textGivenWord reply ⌝ }
+{
+    match reply {
+        TextReply::Illegal { number, place } => word(Case::REFUSED, number, NO_RECORD, 0, place as u64),
+        TextReply::Searched(searched) => reply_word(searched),
     }
 }

@@ -10,8 +10,8 @@ use Rattle.lists.specs.Lists.{_∈_, keep}
 use Rattle.lists.specs.Reply.{Reply, answered}
 use Rattle.lists.specs.Ascending.{less, Ascending}
 use Rattle.lists.proofs.MemberLaws.{keep-only, keep-each}
-use Rattle.refusals.specs.Lines.{Refused, accepted, byLine, byRecord, replyUnless}
-use Rattle.refusals.proofs.LineLaws.{line-refuses, record-refuses}
+use Rattle.refusals.specs.Lines.{Refused, accepted, byLine, byRecord, byPlace, replyUnless}
+use Rattle.refusals.proofs.LineLaws.{line-refuses, record-refuses, place-refuses}
 use Rattle.prefixes.specs.Listed.{after}
 use Rattle.prefixes.specs.Answer.{Answer}
 use Rattle.prefixes.specs.Walk.{startAfter, reached, handed, visited, finished}
@@ -22,7 +22,7 @@ use Rattle.prefixes.proofs.AlikeLaws.{Alike, reached-alike, handed-alike, visit
 use Rattle.model.specs.Witness.{witnessFor}
 use Rattle.model.specs.Prefixes.{prefixesBy, searchBy}
 use Rattle.bench.specs.Search.{Searched, refusalTo, replyTo}
-use Rattle.bench.specs.Demands.{isWitness, prefixes, Call, told, Walk, refusalIn, FinalReply, Demand3}
+use Rattle.bench.specs.Demands.{isWitness, prefixes, Call, Walk, refusalIn, FinalReply, Demand3}
 use Rattle.bench.proofs.ReplyLaws.{Sound, replied, listed-are, listed-ascending, listed-nonempty, honest, declined, witness-is-listed}
 
 -- a list without entries is empty
@@ -98,9 +98,9 @@ module _ (q : Searched) (sound : Sound q) (cs : List Call) where
   holds = (exact, walk .ascending, complete, walk .counted, forbidden)
 
 -- what the entry promised agrees with the definition's replies, call by call
-alike : (q : Searched) (start : List ℕ) (cs : List Call) → Walk q start cs → Alike (λ p c. told c) (replied q) start cs
+alike : (q : Searched) (start : List ℕ) (cs : List Call) → Walk q start cs → Alike (λ p c. c .told) (replied q) start cs
 alike q start [] w = tt
-alike q start (c ∷ cs) w = (w .0 .0, alike q (startAfter start (told c)) cs (w .1))
+alike q start (c ∷ cs) w = (w .0 .0, alike q (startAfter start (c .told)) cs (w .1))
 
 -- from one start, with any two buffers, a larger allowance gives the same reply, if that is found or none left
 larger : (q : Searched) (start out more : List ℕ) (b c : ℕ) → b ≤ c → FinalReply (replyTo q start out b)
@@ -117,8 +117,10 @@ larger q start out more b c h = go (refusalTo q start out b) (refusalTo q start 
         ap answered (larger-allowance (witnessFor (q .table) (q .outcome)) (after start (prefixesBy (q .table) (q .passes))) start b c h f)
     go accepted (byLine k) f n = absurd (line-refuses k n)
     go accepted (byRecord k i) f n = absurd (record-refuses k i n)
+    go accepted (byPlace k p) f n = absurd (place-refuses k p n)
     go (byLine k) r f n = absurd f
     go (byRecord k i) r f n = absurd f
+    go (byPlace k p) r f n = absurd f
 
 -- demand 3, of whatever is searched
 pub demand3 : (q : Searched) → Sound q → (cs : List Call) → Walk q [] cs → Demand3 q cs
@@ -138,7 +140,7 @@ demand3 q sound cs w = record {
 }
   where
     by : List ℕ → Call → Reply Refused Answer
-    by p c = told c
+    by p c = c .told
 
     a : Alike by (replied q) [] cs
     a = alike q [] cs w

@@ -6,7 +6,7 @@ use native.Mathlib.Omega.{arith}
 use Rattle.lists.specs.Reply.{answered}
 use Rattle.table.specs.declared.Table.{Table}
 use Rattle.decode.specs.Decoded.{decoded}
-use Rattle.refusals.specs.Lines.{Refused, accepted, byLine, byRecord, Line, firstLine, replyUnless}
+use Rattle.refusals.specs.Lines.{Refused, accepted, byLine, byRecord, byPlace, Line, firstLine, replyUnless}
 use Rattle.refusals.specs.Exactly.{Exactly}
 use Rattle.refusals.proofs.PassedLaws.{unless-refused}
 use Rattle.refusals.proofs.ExactlyLaws.{first-exactly}
@@ -21,11 +21,12 @@ use Rattle.model.specs.Says.{Says}
 use Rattle.model.proofs.SaysLaws.{says, allowed-exactly}
 use Rattle.candidate.specs.Buffers.{written}
 use Rattle.search.specs.Replies.{bufferAfter}
+use Rattle.text.specs.Texts.{textLines, textRefusal}
 use Rattle.bench.specs.Candidate.{verdictLines, verdictOf, returnsLines, returnsRefusal, returnsBuffer}
 use Rattle.bench.specs.PairRules.{rulesLines, rulesOf}
-use Rattle.bench.specs.Search.{ofBlock, ofBlockPruned, refusalTo, replyTo, bufferLeft, searchLines, prunedLines}
+use Rattle.bench.specs.Search.{ofBlock, ofBlockPruned, refusalTo, replyTo, bufferLeft, searchLines, prunedLines, ofText, textSearchLines}
 use Rattle.bench.specs.Demands.{refusalIn, Unaltered, Demand1, Demand2, Demands}
-use Rattle.bench.proofs.ReplyLaws.{block-sound, pruned-sound}
+use Rattle.bench.proofs.ReplyLaws.{block-sound, pruned-sound, text-sound}
 use Rattle.bench.proofs.Demand3Laws.{demand3}
 
 -- the refusal in a reply is the one by which it was refused
@@ -33,19 +34,21 @@ refusal-in : {A : Type 0} (r : Refused) (a : A) → refusalIn (replyUnless r a) 
 refusal-in accepted a = refl
 refusal-in (byLine n) a = refl
 refusal-in (byRecord n k) a = refl
+refusal-in (byPlace n p) a = refl
 
 -- a refused search leaves the buffer as it was
 reply-unaltered : (r : Refused) (a : Answer) (out : List ℕ) → Unaltered (refusalIn (replyUnless r a)) out (bufferAfter (replyUnless r a) out)
 reply-unaltered accepted a out h = absurd (h refl)
 reply-unaltered (byLine n) a out h = refl
 reply-unaltered (byRecord n k) a out h = refl
+reply-unaltered (byPlace n p) a out h = refl
 
 -- the answer's refusal is exactly that of its lines
 exactly-of : (n : ℕ) (ls : List Line) (r : Refused) → r ≡ firstLine n ls → Exactly n ls r
 exactly-of n ls r e = subst (Exactly n ls) (sym e) (first-exactly n ls)
 
 demand1 : (s : List ℕ) (t : Table) (rf gmo start out : List ℕ) (a b allowance k : ℕ) → Demand1 s t rf gmo start out a b allowance k
-unfolding readRefusal writeRefusal writtenBlock verdictOf rulesOf returnsRefusal returnsBuffer refusalTo replyTo bufferLeft
+unfolding readRefusal textRefusal writeRefusal writtenBlock verdictOf rulesOf returnsRefusal returnsBuffer refusalTo replyTo bufferLeft
 demand1 s t rf gmo start out a b allowance k = record {
   read = first-exactly _ (readingLines s);
   write = first-exactly _ (writingLines t out);
@@ -58,6 +61,9 @@ demand1 s t rf gmo start out a b allowance k = record {
   search-unaltered = reply-unaltered (refusalTo (ofBlock s) start out allowance) _ out;
   pruned = exactly-of _ (prunedLines s start out allowance) _ (refusal-in _ _);
   pruned-unaltered = reply-unaltered (refusalTo (ofBlockPruned s) start out allowance) _ out;
+  text = first-exactly _ (textLines s);
+  text-search = exactly-of _ (textSearchLines s start out allowance) _ (refusal-in _ _);
+  text-unaltered = reply-unaltered (refusalTo (ofText s) start out allowance) _ out;
   part = empty-exactly s k;
 }
 
@@ -66,6 +72,7 @@ judged-is : (r : Refused) (v w : Verdict) → replyUnless r v ≡ answered w →
 judged-is accepted v w e = cc
 judged-is (byLine n) v w e = absurd (let z : _≡_ {A = ℕ} 0 1 = cc in omega arith)
 judged-is (byRecord n k) v w e = absurd (let z : _≡_ {A = ℕ} 0 1 = cc in omega arith)
+judged-is (byPlace n p) v w e = absurd (let z : _≡_ {A = ℕ} 0 1 = cc in omega arith)
 
 abbrev refusal : (s rf gmo : List ℕ) → Refused
 refusal s rf gmo = firstLine (decoded s .count) (verdictLines s rf gmo)
@@ -81,4 +88,6 @@ demand2 s rf gmo = record {
 }
 
 pub demands : Demands
-demands = (demand1, demand2, (λ s. demand3 (ofBlock s) (block-sound s)), λ s. demand3 (ofBlockPruned s) (pruned-sound s))
+demands =
+    (demand1, demand2, (λ s. demand3 (ofBlock s) (block-sound s)), (λ s. demand3 (ofBlockPruned s) (pruned-sound s)),
+    λ s. demand3 (ofText s) (text-sound s))

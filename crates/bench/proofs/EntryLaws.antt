@@ -1,15 +1,24 @@
 -- From reading to each entry: what a table that was read has, and what the whole refusal is.
-use Prim.Native.Nat.{ℕ}
+use Prim.Native.Nat.{ℕ, _≤_}
 use mathlib.Core.Path.{_≡_, refl, sym, ap, subst, _∙_}
-use mathlib.Core.Bool.{Bool}
+use mathlib.Core.Bool.{Bool, false}
+use native.Mathlib.Omega.{arith}
 use mathlib.Core.List.{List, _++_}
+use lib.ListN.{length, take}
 use mathlib.Core.Logic.{_≢_}
 use Rattle.lists.specs.Reply.{Reply, refused}
 use Rattle.table.specs.declared.Table.{Table}
 use Rattle.decode.specs.Layout.{editionOf}
 use Rattle.decode.specs.Decoded.{decoded}
 use Rattle.refusals.specs.Lines.{Refused, accepted, firstLine, unless, replyUnless}
-use Rattle.refusals.proofs.PassedLaws.{refused-first, passed-first, entry-declined, entry-own, unless-refused}
+use Rattle.refusals.proofs.InRange.{block-asks-range, text-asks-range}
+use Rattle.refusals.specs.declared.Refusal.{Refusal}
+use Rattle.refusals.specs.declared.Refusal.the-variants.{None}
+use Rattle.refusals.specs.TableLines.{textLine7, tableLinesBy}
+use Rattle.refusals.proofs.LineLaws.{whole-off, place-off}
+use Rattle.refusals.proofs.TablePassed.{TablePassed, table-passed-by}
+use Rattle.edition.specs.Limits.{two, mostEvents}
+use Rattle.refusals.proofs.PassedLaws.{passed-both, refused-first, passed-first, entry-declined, entry-own, unless-refused}
 use Rattle.block.specs.Reading.{readingLines, readRefusal, readTable, noTable}
 use Rattle.block.proofs.ReadingLaws.{passed-table, most-fits}
 use Rattle.table.specs.Counts.{Small}
@@ -20,13 +29,22 @@ use Rattle.model.specs.Witness.{statedOutcome}
 use Rattle.placing.specs.GoodTable.{GoodTable}
 use Rattle.placing.proofs.GoodTableLaws.{good-table}
 use Rattle.candidate.specs.Buffers.{written}
-use Rattle.search.specs.Replies.{tableReply, bufferAfter, prefixLength}
+use Rattle.model.specs.Prefixes.{clean}
+use Rattle.model.specs.Following.{meets}
+use Rattle.text.specs.Texts.{linesAs, textLines, textRefusal, tableOfText, textTable, conditionOf}
+use Rattle.text.specs.TextRefusals.{textRefusalOf}
+use Rattle.text.specs.Accepted.{IfAccepted}
+use Rattle.text.specs.declared.TextRefusal.{TextRefusal}
+use Rattle.text.specs.declared.TextRefusal.the-variants as text
+use Rattle.search.specs.declared.Reply as code
+use Rattle.search.specs.Begins.{SearchesFor}
+use Rattle.search.specs.Replies.{replyOf, lengthOf, tableReply, bufferAfter, prefixLength}
 use Rattle.answers.specs.Candidate.{candidateLines, orderLines}
 use Rattle.pair_rules.specs.PairRules.{returnedLines, rulesBetween}
 use Rattle.pair_rules.proofs.PairLaws.{RuledAs}
 use Rattle.bench.specs.Candidate.{verdictLines, verdictOf, returnsLines, returnsRefusal, returnsBuffer}
 use Rattle.bench.specs.PairRules.{rulesLines, rulesOf}
-use Rattle.bench.specs.Search.{ofBlockBy, linesTo, refusalTo, replyTo, bufferLeft}
+use Rattle.bench.specs.Search.{Searched, ofBlockBy, ofText, linesTo, refusalTo, replyTo, bufferLeft, textReply, textBuffer}
 
 module _ (s : List ℕ) (ok : readRefusal s ≡ accepted) where
   -- the table is the one decoded
@@ -36,7 +54,7 @@ module _ (s : List ℕ) (ok : readRefusal s ≡ accepted) where
 
   -- it is good, and so its counts are in range, and each event's hart and location
   pub good-read : GoodTable (decoded s)
-  good-read = good-table _ _ (decoded s) (most-fits (editionOf s)) (passed-table s ok)
+  good-read = good-table _ _ _ (decoded s) (block-asks-range (decoded s)) (most-fits (editionOf s)) (passed-table s ok)
 
   pub small-read : Small (decoded s)
   small-read = good-read .small
@@ -79,29 +97,94 @@ module _ (s gmo out : List ℕ) where
       own : firstLine (decoded s .count) (orderLines (decoded s) gmo out) ≡ firstLine (decoded s .count) (readingLines s ++ orderLines (decoded s) gmo out)
       own = sym (passed-first _ (readingLines s) _ ok)
 
--- The search entries, along the prefixes that pass.
-module _ (passes : Table → List ℕ → Bool) (s start out : List ℕ) (b : ℕ) where
+-- The search entries, of whatever is searched.
+module _ (q : Searched) (start out : List ℕ) (b : ℕ) where
   abbrev reply : Reply Refused Answer
-  reply = replyTo (ofBlockBy passes s) start out b
+  reply = replyTo q start out b
 
   -- a reply with its buffer and length, of one that is the same
   told : (a c : Reply Refused Answer) → a ≡ c → (r : Reply Refused Answer) (after : List ℕ) (len : ℕ) →
       (r ≡ a) × ((after ≡ bufferAfter a out) × (len ≡ prefixLength a)) → (r ≡ c) × ((after ≡ bufferAfter c out) × (len ≡ prefixLength c))
   told a c e r after len h = (h .0 ∙ e, (h .1 .0 ∙ ap (λ (q : Reply Refused Answer). bufferAfter q out) e, h .1 .1 ∙ ap prefixLength e))
 
-  pub search-declined : (q : Refused) → q ≡ readRefusal s → q ≢ accepted →
-      (refused q ≡ reply) × ((out ≡ bufferLeft (ofBlockBy passes s) start out b) × (0 ≡ prefixLength reply))
-  unfolding bufferLeft replyTo refusalTo linesTo readRefusal
-  search-declined q e n = told (refused q) reply
-      (entry-declined (decoded s .count) (readingLines s) _ _ q e n) (refused q) out 0 (refl, (refl, refl))
+  -- what was handed in is refused
+  pub search-declined : (r : Refused) → r ≡ firstLine (q .table .count) (q .lines) → r ≢ accepted →
+      (refused r ≡ reply) × ((out ≡ bufferLeft q start out b) × (0 ≡ prefixLength reply))
+  unfolding bufferLeft replyTo refusalTo linesTo
+  search-declined r e n = told (refused r) reply
+      (entry-declined (q .table .count) (q .lines) _ _ r e n) (refused r) out 0 (refl, (refl, refl))
 
-  pub search-answered : (t : Table) (r : Reply Refused Answer) (after : List ℕ) (len : ℕ) → readRefusal s ≡ accepted → t ≡ decoded s →
-      (let a = tableReply t (passes t) (statedOutcome t) start out b in (r ≡ a) × ((after ≡ bufferAfter a out) × (len ≡ prefixLength a))) →
-      (r ≡ reply) × ((after ≡ bufferLeft (ofBlockBy passes s) start out b) × (len ≡ prefixLength reply))
-  unfolding bufferLeft replyTo refusalTo linesTo tableReply readRefusal
-  search-answered t r after len ok e h = told (tableReply t (passes t) (statedOutcome t) start out b) reply
-      (ap (λ (x : Table). tableReply x (passes x) (statedOutcome x) start out b) e ∙ entry-own (decoded s .count) (readingLines s) _ _ ok)
+  -- it isn't: the lines of the call and the search decide
+  pub search-answered : (r : Reply Refused Answer) (after : List ℕ) (len : ℕ) → firstLine (q .table .count) (q .lines) ≡ accepted →
+      (let a = tableReply (q .table) (q .passes) (q .outcome) start out b in (r ≡ a) × ((after ≡ bufferAfter a out) × (len ≡ prefixLength a))) →
+      (r ≡ reply) × ((after ≡ bufferLeft q start out b) × (len ≡ prefixLength reply))
+  unfolding bufferLeft replyTo refusalTo linesTo tableReply
+  search-answered r after len ok h = told (tableReply (q .table) (q .passes) (q .outcome) start out b) reply
+      (entry-own (q .table .count) (q .lines) _ _ ok)
       r after len h
+
+-- Those of blocks, along the prefixes that pass.
+module _ (passes : Table → List ℕ → Bool) (s start out : List ℕ) (b : ℕ) where
+  pub block-declined : (r : Refused) → r ≡ readRefusal s → r ≢ accepted →
+      (refused r ≡ reply (ofBlockBy passes s) start out b)
+      × ((out ≡ bufferLeft (ofBlockBy passes s) start out b) × (0 ≡ prefixLength (reply (ofBlockBy passes s) start out b)))
+  unfolding readRefusal
+  block-declined = search-declined (ofBlockBy passes s) start out b
+
+  pub block-answered : (t : Table) (r : Reply Refused Answer) (after : List ℕ) (len : ℕ) → readRefusal s ≡ accepted → t ≡ decoded s →
+      (let a = tableReply t (passes t) (statedOutcome t) start out b in (r ≡ a) × ((after ≡ bufferAfter a out) × (len ≡ prefixLength a))) →
+      (r ≡ reply (ofBlockBy passes s) start out b)
+      × ((after ≡ bufferLeft (ofBlockBy passes s) start out b) × (len ≡ prefixLength (reply (ofBlockBy passes s) start out b)))
+  unfolding readRefusal
+  block-answered t r after len ok e h = search-answered (ofBlockBy passes s) start out b r after len ok
+      (subst (λ (x : Table). let a = tableReply x (passes x) (statedOutcome x) start out b in
+      (r ≡ a) × ((after ≡ bufferAfter a out) × (len ≡ prefixLength a))) e h)
+
+-- That of texts.
+module _ (s start out : List ℕ) (b : ℕ) where
+  pub text-declined : (r : Refused) → r ≡ textRefusal s → r ≢ accepted →
+      (refused r ≡ textReply s start out b) × ((out ≡ textBuffer s start out b) × (0 ≡ prefixLength (textReply s start out b)))
+  unfolding textRefusal
+  text-declined = search-declined (ofText s) start out b
+
+  -- the words are those of the condition, which the search is for
+  pub text-answered : (t : Table) (words : List ℕ) (len : ℕ) (r : code.Reply) (after : List ℕ) → textRefusal s ≡ accepted →
+      t ≡ textTable s → IfAccepted s t words len → SearchesFor t (take len words) start out b r after →
+      (replyOf r after ≡ textReply s start out b)
+      × ((after ≡ textBuffer s start out b) × (lengthOf r ≡ prefixLength (textReply s start out b)))
+  unfolding textRefusal textTable
+  text-answered t words len r after ok e known f =
+      let a = known ok in
+      let h = f (conditionOf s) (a .coded) (a .fitting) (a .known) in
+      search-answered (ofText s) start out b (replyOf r after) after (lengthOf r) ok
+      (subst (λ (x : Table). let g = tableReply x (clean x) (meets x (conditionOf s)) start out b in
+      (replyOf r after ≡ g) × ((after ≡ bufferAfter g out) × (lengthOf r ≡ prefixLength g)))
+      (e ∙ ap (λ (q : Refused). unless q (tableOfText s) noTable) ok) (h .reply, (h .buffer, h .length)))
+
+-- a text isn't refused where the code says so
+pub text-accepted : (r : TextRefusal) (l : Refusal) (q : Refused) → textRefusalOf r ≡ q → r ≡ text.Table l → l ≡ None → q ≡ accepted
+text-accepted r l q e f g = sym e ∙ ap textRefusalOf (f ∙ ap text.Table g)
+
+-- what reading promised of one that isn't refused
+module _ (s : List ℕ) (t : Table) (words : List ℕ) (len : ℕ) (known : IfAccepted s t words len) (ok : textRefusal s ≡ accepted) where
+  pub words-inside : len ≤ length words
+  words-inside = known ok .inside
+
+  pub good-given : GoodTable t
+  good-given = known ok .good
+
+-- it has a good table then, with a memory event
+module _ (s : List ℕ) (ok : textRefusal s ≡ accepted) where
+  pub passed-text : TablePassed (textLine7 (tableOfText s)) (mostEvents two) false (tableOfText s)
+  unfolding textRefusal textLines linesAs
+  passed-text =
+      let past1 = whole-off _ _ _ _ ok in
+      let past19 = place-off _ _ _ _ _ (past1 .1) in
+      let past20 = place-off _ _ _ _ _ (past19 .1) in
+      table-passed-by _ _ _ _ (passed-both _ (tableLinesBy (textLine7 (tableOfText s)) (mostEvents two) false (tableOfText s)) _ (past20 .1) .0)
+
+  pub good-text : GoodTable (tableOfText s)
+  good-text = good-table _ (mostEvents two) false (tableOfText s) (text-asks-range (tableOfText s)) (omega arith) passed-text
 
 -- The entry for the rules of a pair.
 module _ (s rf : List ℕ) (a b : ℕ) where

@@ -10,7 +10,7 @@ use Rattle.lists.specs.Reply.{Reply, refused, answered}
 use Rattle.lists.specs.Ascending.{AllAbove, Ascending}
 use Rattle.table.specs.Events.{memory}
 use Rattle.decode.specs.Decoded.{decoded}
-use Rattle.refusals.specs.Lines.{Refused, accepted, byLine, byRecord, unless, replyUnless}
+use Rattle.refusals.specs.Lines.{Refused, accepted, byLine, byRecord, byPlace, unless, replyUnless}
 use Rattle.refusals.proofs.PassedLaws.{passed-both, entry-declined}
 use Rattle.block.specs.Reading.{readRefusal}
 use Rattle.block.proofs.ReadingLaws.{passed-table}
@@ -21,9 +21,10 @@ use Rattle.model.specs.Witness.{witnessFor}
 use Rattle.model.specs.Prefixes.{clean, prefixesBy, searchBy}
 use Rattle.model.proofs.PrefixLaws.{clean-closed, passing-listed, passing-ascending, passing-nonempty, witness-clean, witness-nonempty}
 use Rattle.pruning.proofs.UnprunedLaws.{unpruned-clean, unpruned-closed, witness-unpruned}
-use Rattle.bench.specs.Search.{Searched, ofBlock, ofBlockPruned, linesTo, refusalTo, replyTo}
+use Rattle.text.specs.Texts.{tableOfText, textRefusal}
+use Rattle.bench.specs.Search.{Searched, ofBlock, ofBlockPruned, ofText, linesTo, refusalTo, replyTo}
 use Rattle.bench.specs.Demands.{refusal, isWitness, isListed, prefixes, Call}
-use Rattle.bench.proofs.EntryLaws.{good-read}
+use Rattle.bench.proofs.EntryLaws.{good-read, passed-text}
 
 -- what demand 3 uses of what is searched: the test is prefix-closed and passed by clean prefixes only; what isn't refused has a
 -- memory event, and each of its witnesses passes
@@ -57,6 +58,16 @@ pruned-sound s = record {
   peopled = read-memory s;
 }
 
+-- a text
+pub text-sound : (s : List ℕ) → Sound (ofText s)
+unfolding refusal textRefusal
+text-sound s = record {
+  closed = clean-closed (tableOfText s);
+  cleanly = λ p h. h;
+  witnesses = λ h. witness-clean (tableOfText s) _;
+  peopled = λ h. passed-text s h .memory;
+}
+
 -- the reply to a call, by the definition
 abbrev pub replied : Searched → List ℕ → Call → Reply Refused Answer
 replied q start c = replyTo q start (c .buffer) (c .allowance)
@@ -74,6 +85,7 @@ module _ (q : Searched) (sound : Sound q) where
       go accepted = passing-listed (q .table) (q .passes) (sound .closed) (sound .cleanly) p
       go (byLine n) = none
       go (byRecord n k) = none
+      go (byPlace n p) = none
 
   -- every witness is listed
   pub witness-is-listed : (gmo : List ℕ) → isWitness q gmo ≡ true → gmo ∈ prefixes q
@@ -87,6 +99,7 @@ module _ (q : Searched) (sound : Sound q) where
           (witness-nonempty (q .table) (q .outcome) gmo (sound .peopled e) h, sound .witnesses e gmo h)
       go (byLine n) e h = absurd (false≢true h)
       go (byRecord n k) e h = absurd (false≢true h)
+      go (byPlace n p) e h = absurd (false≢true h)
 
 module _ (q : Searched) where
   -- in ascending order
@@ -98,6 +111,7 @@ module _ (q : Searched) where
       go accepted = passing-ascending (q .table) (q .passes)
       go (byLine n) = tt
       go (byRecord n k) = tt
+      go (byPlace n p) = tt
 
   -- none is empty
   pub listed-nonempty : AllAbove [] (prefixes q)
@@ -108,6 +122,7 @@ module _ (q : Searched) where
       go accepted = passing-nonempty (q .table) (q .passes)
       go (byLine n) = tt
       go (byRecord n k) = tt
+      go (byPlace n p) = tt
 
   -- where nothing refuses, a search is the answer over the witnesses and the listed prefixes
   search-over : (start : List ℕ) (b : ℕ) → refusal q ≡ accepted →
@@ -132,6 +147,7 @@ module _ (q : Searched) where
           inr (c .allowance, ap answered (search-over start (c .allowance) (passed-both (q .table .count) (q .lines) _ h .0)))
       go (byLine n) h = inl (byLine n, refl)
       go (byRecord n k) h = inl (byRecord n k, refl)
+      go (byPlace n p) h = inl (byPlace n p, refl)
 
   -- what reading declines: every call is refused
   pub declined : refusal q ≢ accepted → (start : List ℕ) (c : Call) → replied q start c ≡ refused (refusal q)

@@ -22,12 +22,13 @@ use Rattle.model.specs.Verdict.{Verdict, allowed}
 use Rattle.model.specs.Says.{AllHold, Says}
 use Rattle.model.specs.Witness.{witnessFor}
 use Rattle.model.specs.Prefixes.{prefixesBy}
+use Rattle.text.specs.Texts.{tableOfText, textLines, textRefusal}
 use Rattle.search.specs.declared.Reply as code
 use Rattle.search.specs.Replies.{replyOf, lengthOf, prefixLength}
 use Rattle.bench.specs.Candidate.{verdictLines, verdictOf, returnsLines, returnsRefusal, returnsBuffer}
 use Rattle.bench.specs.PairRules.{rulesLines, rulesOf}
 use Rattle.bench.specs.Search.{Searched, ofBlock, ofBlockPruned, replyTo, bufferLeft, searchLines, searchReply, searchBuffer}
-use Rattle.bench.specs.Search.{prunedLines, prunedReply, prunedBuffer}
+use Rattle.bench.specs.Search.{prunedLines, prunedReply, prunedBuffer, ofText, textSearchLines, textReply, textBuffer}
 
 -- Demand 1. Any bytes, lists and numbers may be handed in; each entry gives the refusal that the paper names, and then changes
 -- nothing that it was lent. (That every call ends without a fault is what the prover asks of each function.)
@@ -41,7 +42,7 @@ refusalIn (answered a) = accepted
 abbrev pub Unaltered : Refused → List ℕ → List ℕ → Type 0
 Unaltered r before after = r ≢ accepted → after ≡ before
 
--- s: a block's bytes, or a suite's; t: a table; rf, gmo, start: a returned list, an order, a search's start; out: the buffer
+-- s: a block's bytes, a suite's or a text's; t: a table; rf, gmo, start: a returned list, an order, a search's start; out: the buffer
 module _ (s : List ℕ) (t : Table) (rf gmo start out : List ℕ) (a b allowance k : ℕ) where
   pub record Demand1 : Type 0 where
     -- reading: lines 1 to 11
@@ -62,6 +63,11 @@ module _ (s : List ℕ) (t : Table) (rf gmo start out : List ℕ) (a b allowance
     -- the same by the second engine, whose line 15 is over its own list
     pub pruned : Exactly (decoded s .count) (prunedLines s start out allowance) (refusalIn (prunedReply s start out allowance))
     pub pruned-unaltered : Unaltered (refusalIn (prunedReply s start out allowance)) out (prunedBuffer s start out allowance)
+    -- reading a text: line 1, the first breach by 19 or 20 with its place, lines 5 to 11 and 23
+    pub text : Exactly (tableOfText s .count) (textLines s) (textRefusal s)
+    -- a search of a text: these, and lines 15 to 17
+    pub text-search : Exactly (tableOfText s .count) (textSearchLines s start out allowance) (refusalIn (textReply s start out allowance))
+    pub text-unaltered : Unaltered (refusalIn (textReply s start out allowance)) out (textBuffer s start out allowance)
     -- block k of a suite, line 18: "then, and only then, an empty part is handed back"
     pub part : (blockOf s k ≡ []) ↔ (inSuite s k ≡ false)
 
@@ -94,44 +100,47 @@ module _ (q : Searched) where
   unfoldable pub prefixes : List (List ℕ)
   prefixes = unless refusal (prefixesBy (q .table) (q .passes)) []
 
--- a call: "Each has any allowance and any answer buffer, too short ones included." What it was answered, and the buffer then
+-- a call: "Each has any allowance and any answer buffer, too short ones included." What it was answered in the paper's words, its
+-- prefix read off the buffer "at the length answered", that length, and the buffer then
 pub record Call : Type 0 where
   pub allowance : ℕ
   pub buffer : List ℕ
-  pub reply : code.Reply
+  pub told : Reply Refused Answer
+  pub saidLength : ℕ
   pub after : List ℕ
 
--- the answer in the paper's words, its prefix read off the buffer "at the length answered"
-abbrev pub told : Call → Reply Refused Answer
-told c = replyOf (c .reply) (c .after)
+-- a call with the code's reply: what `bench::search` and `bench::search_pruned` ensure is what is promised of it
+abbrev pub callOf : (allowance : ℕ) (buffer : List ℕ) → code.Reply → (after : List ℕ) → Call
+callOf allowance buffer r after =
+    record { allowance = allowance; buffer = buffer; told = replyOf r after; saidLength = lengthOf r; after = after }
 
 module _ (q : Searched) where
-  -- what the entry (for a block `bench::search`) promises of a call from a start
+  -- what the entry (for a block `bench::search`, for a text `bench::search_text`) ensures of a call from a start
   abbrev pub Promised : List ℕ → Call → Type 0
   Promised start c =
-      (told c ≡ replyTo q start (c .buffer) (c .allowance))
+      (c .told ≡ replyTo q start (c .buffer) (c .allowance))
       × ((c .after ≡ bufferLeft q start (c .buffer) (c .allowance))
-      × (lengthOf (c .reply) ≡ prefixLength (replyTo q start (c .buffer) (c .allowance))))
+      × (c .saidLength ≡ prefixLength (replyTo q start (c .buffer) (c .allowance))))
 
   -- "A walk is a list of search calls, refused ones included, all given the same table bytes": each from the start that those
   -- before it left
   abbrev pub Walk : List ℕ → List Call → Type 0
   Walk start [] = Unit {0}
-  Walk start (c ∷ cs) = Promised start c × Walk (startAfter start (told c)) cs
+  Walk start (c ∷ cs) = Promised start c × Walk (startAfter start (c .told)) cs
 
 -- "The first start is empty."
 module _ (cs : List Call) where
   abbrev pub startReached : List ℕ
-  startReached = reached (λ start c. told c) [] cs
+  startReached = reached (λ start c. c .told) [] cs
 
   abbrev pub handedOut : List (List ℕ)
-  handedOut = handed (λ start c. told c) [] cs
+  handedOut = handed (λ start c. c .told) [] cs
 
   abbrev pub visitedNumbers : ℕ
-  visitedNumbers = visited (λ start c. told c) [] cs
+  visitedNumbers = visited (λ start c. c .told) [] cs
 
   abbrev pub isFinished : Bool
-  isFinished = finished (λ start c. told c) [] cs
+  isFinished = finished (λ start c. c .told) [] cs
 
 abbrev pub FinalReply : Reply Refused Answer → Type 0
 FinalReply (refused r) = ⊥
@@ -153,11 +162,11 @@ module _ (q : Searched) (cs : List Call) where
     pub listed : (p : List ℕ) → (p ∈ prefixes q) ↔ ((p ≢ []) × (isListed q p ≡ true))
     pub in-order : Ascending (prefixes q)
     -- what reading declines: every call is refused
-    pub declined : refusal q ≢ accepted → (start : List ℕ) (c : Call) → Promised q start c → told c ≡ refused (refusal q)
+    pub declined : refusal q ≢ accepted → (start : List ℕ) (c : Call) → Promised q start c → c .told ≡ refused (refusal q)
     -- from one start a larger allowance, if not refused, never alters found or none left, its visited number or its bytes,
     -- whatever the two buffers are
     pub larger-allowance : (start : List ℕ) (c d : Call) → Promised q start c → Promised q start d → c .allowance ≤ d .allowance
-        → FinalReply (told c) → refusalIn (told d) ≡ accepted → told d ≡ told c
+        → FinalReply (c .told) → refusalIn (d .told) ≡ accepted → d .told ≡ c .told
 
 -- the demands, of everything that may be handed in
 abbrev pub Demands : Type 0
@@ -167,6 +176,8 @@ Demands =
     × ((s : List ℕ) (cs : List Call) → Walk (ofBlock s) [] cs → Demand3 (ofBlock s) cs)
     -- "and so does demand 3 for its walks; a walk keeps to one engine"
     × ((s : List ℕ) (cs : List Call) → Walk (ofBlockPruned s) [] cs → Demand3 (ofBlockPruned s) cs)
+    -- "in demand 3 the stated outcome is the condition"
+    × ((s : List ℕ) (cs : List Call) → Walk (ofText s) [] cs → Demand3 (ofText s) cs)
 
 -- "Walked from the beginning until none are left, both engines hand out the same witnesses in the same order."
 abbrev pub BothEngines : Type 0

@@ -1,4 +1,5 @@
 pub mod Candidate
 pub mod Search
+pub mod TextReplies
 pub mod PairRules
 pub mod Demands

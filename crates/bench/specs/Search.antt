@@ -1,4 +1,5 @@
--- The search entry, of any bytes, start, buffer and allowance: refusals 1 to 11, 15, 16, 17, the reply and the buffer.
+-- The search entries, of any bytes, start, buffer and allowance: the refusals of a block or a text, then 15, 16, 17, the reply and
+-- the buffer.
 use Prim.Native.Nat.{ℕ}
 use mathlib.Core.Bool.{Bool}
 use mathlib.Core.List.{List, _++_}
@@ -11,6 +12,8 @@ use Rattle.prefixes.specs.Answer.{Answer}
 use Rattle.model.specs.Witness.{statedOutcome}
 use Rattle.model.specs.Prefixes.{clean, searchBy}
 use Rattle.model.specs.Settled.{unpruned}
+use Rattle.model.specs.Following.{meets}
+use Rattle.text.specs.Texts.{tableOfText, textLines, conditionOf}
 use Rattle.search.specs.Replies.{startLines, bufferAfter}
 
 -- what is searched: the lines by which it may be refused, its table, the test of the prefixes that are listed, and the outcome
@@ -34,7 +37,13 @@ ofBlock s = ofBlockBy clean s
 abbrev pub ofBlockPruned : List ℕ → Searched
 ofBlockPruned s = ofBlockBy unpruned s
 
--- the lines of a search: for a block 1 to 11, 15, 16, 17
+-- a text, along its clean prefixes, for its condition: "stated reads and finals aren't asked for, and in demand 3 the stated outcome
+-- is the condition"; "The first engine's definition is otherwise the same"
+abbrev pub ofText : List ℕ → Searched
+ofText s =
+    record { lines = textLines s; table = tableOfText s; passes = clean (tableOfText s); outcome = meets (tableOfText s) (conditionOf s) }
+
+-- the lines of a search: for a block 1 to 11, for a text 1, 19, 20, 5 to 11, 23; then 15, 16, 17
 unfoldable pub linesTo : Searched → List ℕ → List ℕ → ℕ → List Line
 linesTo q start out b = q .lines ++ startLines (q .table) (q .passes) start out b
 
@@ -68,3 +77,13 @@ prunedReply s start out b = replyTo (ofBlockPruned s) start out b
 
 abbrev pub prunedBuffer : List ℕ → List ℕ → List ℕ → ℕ → List ℕ
 prunedBuffer s start out b = bufferLeft (ofBlockPruned s) start out b
+
+-- of a text
+abbrev pub textSearchLines : List ℕ → List ℕ → List ℕ → ℕ → List Line
+textSearchLines s start out b = linesTo (ofText s) start out b
+
+abbrev pub textReply : List ℕ → List ℕ → List ℕ → ℕ → Reply Refused Answer
+textReply s start out b = replyTo (ofText s) start out b
+
+abbrev pub textBuffer : List ℕ → List ℕ → List ℕ → ℕ → List ℕ
+textBuffer s start out b = bufferLeft (ofText s) start out b

@@ -4,6 +4,7 @@ use pair_rules::PairRules;
 use refusals::Refusal;
 use search::Reply;
 use table::Table;
+use text::TextRefusal;
 use verdict::Verdict;
 ghost use mathlib.Core.Path.{_≡_};
 ghost use Rattle.refusals.specs.Refusals.{refusalOf};
@@ -16,7 +17,10 @@ ghost use Rattle.pair_rules.specs.PairRules.{ruledOf};
 ghost use Rattle.search.specs.Replies.{replyOf, lengthOf, prefixLength};
 ghost use Rattle.bench.specs.Candidate.{verdictOf, returnsRefusal, returnsBuffer};
 ghost use Rattle.bench.specs.PairRules.{rulesOf};
-ghost use Rattle.bench.specs.Search.{searchReply, searchBuffer, prunedReply, prunedBuffer};
+ghost use Rattle.text.specs.Texts.{textRefusal, textTable};
+ghost use Rattle.text.specs.TextRefusals.{textRefusalOf};
+ghost use Rattle.bench.specs.Search.{searchReply, searchBuffer, prunedReply, prunedBuffer, textReply, textBuffer};
+ghost use Rattle.bench.specs.TextReplies.{textReplyOf, textLengthOf};
 
 // Reading a test: refusals 1 to 11, and the table.
 pub fn read(bytes: &[u8]) -> Reading
@@ -140,5 +144,53 @@ pub fn search_pruned(bytes: &[u8], start: &[u8], out: &mut [u8], allowance: u64)
         Refusal::None => search::search_pruned(t, start, out, allowance),
         Refusal::Line(n) => Reply::Refused(Refusal::Line(n)),
         Refusal::Record(n, record) => Reply::Refused(Refusal::Record(n, record)),
+    }
+}
+
+// What reading a text gives.
+pub struct TextTest {
+    pub refusal: TextRefusal,
+    pub table: Table,
+}
+
+// Reading a text: refusals 1, 19, 20, 5 to 11 and 23, and the table.
+pub fn read_text(text: &[u8]) -> TextTest
+    ensures { λ r. ⌜ (textRefusalOf (r .refusal) ≡ textRefusal (now (text .entry))) × (r .table ≡ textTable (now (text .entry))) ⌝ }
+{
+    let mut words = [0u32; condition_reader::WORDS];
+    let reading = text::read(text, &mut words);
+    let refusal = reading.refusal;
+    let table = reading.table;
+    TextTest { refusal, table }
+}
+
+// A reply to a search of a text: 19 or 20 with its place, or a reply as to a block.
+pub enum TextReply {
+    Illegal { number: u8, place: usize },
+    Searched(Reply),
+}
+
+// One search call on a text, for an order that makes its condition true.
+pub fn search_text(text: &[u8], start: &[u8], out: &mut [u8], allowance: u64) -> TextReply
+    ensures { λ r. ⌜ textReplyOf r (now (out .exit)) ≡ textReply (now (text .entry)) (now (start .entry)) (now (out .entry)) allowance ⌝ }
+    ensures { λ r. ⌜ now (out .exit) ≡ textBuffer (now (text .entry)) (now (start .entry)) (now (out .entry)) allowance ⌝ }
+    ensures { λ r. ⌜ textLengthOf r ≡ prefixLength (textReply (now (text .entry)) (now (start .entry)) (now (out .entry)) allowance) ⌝ }
+{
+    let mut words = [0u32; condition_reader::WORDS];
+    let reading = text::read(text, &mut words);
+    let refusal = reading.refusal;
+    match refusal {
+        TextRefusal::At { number, place } => TextReply::Illegal { number, place },
+        TextRefusal::Table(line) => match line {
+            Refusal::None => TextReply::Searched(search::search_for(
+                reading.table,
+                &words[..reading.len],
+                start,
+                out,
+                allowance,
+            )),
+            Refusal::Line(n) => TextReply::Searched(Reply::Refused(Refusal::Line(n))),
+            Refusal::Record(n, k) => TextReply::Searched(Reply::Refused(Refusal::Record(n, k))),
+        },
     }
 }

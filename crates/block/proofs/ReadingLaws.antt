@@ -13,7 +13,7 @@ use Rattle.suite_part.specs.Part.{blockOf}
 use Rattle.decode.specs.Layout.{byteAt, editionAt, secondIf, editionOf}
 use Rattle.decode.specs.Decoded.{decodedAs, decoded}
 use Rattle.refusals.specs.Lines.{Refused, accepted, byLine, Line, firstLine, unless}
-use Rattle.refusals.specs.TableLines.{tableLines}
+use Rattle.refusals.specs.TableLines.{line7, tableLines}
 use Rattle.refusals.proofs.LineLaws.{whole-next}
 use Rattle.refusals.proofs.PassedLaws.{passed-both}
 use Rattle.refusals.proofs.TablePassed.{TablePassed, table-passed}
@@ -99,7 +99,8 @@ pub passed-edition : (e : Edition) (s : List ℕ) → editionRefusal e s ≡ acc
 unfolding editionRefusal editionLines
 passed-edition e s h = passed-both (decodedAs e s .count) (lengthLines e s) (tableLines (mostEvents e) (bytesNotZero e s) (decodedAs e s)) h
 
-pub passed-table : (s : List ℕ) → readRefusal s ≡ accepted → TablePassed (mostEvents (editionOf s)) (bytesNotZero (editionOf s) s) (decoded s)
+pub passed-table : (s : List ℕ) → readRefusal s ≡ accepted
+    → TablePassed (line7 (decoded s)) (mostEvents (editionOf s)) (bytesNotZero (editionOf s) s) (decoded s)
 unfolding decoded
 passed-table s h =
     let e = editionOf s in

@@ -1,2 +1,3 @@
+pub mod PlaceLaws
 pub mod FitLaws
 pub mod PartLaws

@@ -9,7 +9,8 @@ ghost use Rattle.suite_part.specs.Part.{blockCount};
 ghost use Rattle.suite_walk.specs.Tests.{testLengthAt, nextBlock};
 ghost use Rattle.bench.specs.Candidate.{verdictOf, returnsRefusal, returnsBuffer};
 ghost use Rattle.bench.specs.PairRules.{rulesOf};
-ghost use Rattle.bench.specs.Search.{searchReply, searchBuffer, prunedReply, prunedBuffer};
+ghost use Rattle.text.specs.Texts.{textRefusal, textTable};
+ghost use Rattle.bench.specs.Search.{searchReply, searchBuffer, prunedReply, prunedBuffer, textReply, textBuffer};
 ghost use Rattle.answer_word.specs.Words.{refusalWord, judgedWord, ruledWord, replyWord};
 ghost use Rattle.capi.specs.Parts.{partRefusal, partOffset, partLength};
 
@@ -87,6 +88,34 @@ pub extern "C" fn ct_search_pruned(
     ensures { λ r. ⌜ now (out .exit) ≡ prunedBuffer (now (block .entry)) (now (start .entry)) (now (out .entry)) allowance ⌝ }
 {
     answer_word::reply_word(bench::search_pruned(block, start, out, allowance))
+}
+
+// Reading a text.
+#[no_mangle]
+pub extern "C" fn ct_read_text(text: &[u8]) -> u64
+    ensures { λ r. ⌜ r ≡ refusalWord (textRefusal (now (text .entry))) ⌝ }
+{
+    let test = bench::read_text(text);
+    let refusal = test.refusal;
+    answer_word::text_refusal_word(refusal)
+}
+
+// The table of a text; blank if reading refuses it.
+#[no_mangle]
+pub extern "C" fn ct_table_of_text(text: &[u8]) -> Table
+    ensures { λ r. ⌜ r ≡ textTable (now (text .entry)) ⌝ }
+{
+    let test = bench::read_text(text);
+    test.table
+}
+
+// One search call on a text.
+#[no_mangle]
+pub extern "C" fn ct_search_text(text: &[u8], start: &[u8], out: &mut [u8], allowance: u64) -> u64
+    ensures { λ r. ⌜ r ≡ replyWord (textReply (now (text .entry)) (now (start .entry)) (now (out .entry)) allowance) ⌝ }
+    ensures { λ r. ⌜ now (out .exit) ≡ textBuffer (now (text .entry)) (now (start .entry)) (now (out .entry)) allowance ⌝ }
+{
+    answer_word::text_reply_word(bench::search_text(text, start, out, allowance))
 }
 
 // How many blocks a suite has; a last part block counts.

@@ -12,7 +12,7 @@ use Rattle.text_format.specs.Condition.{Condition, maxNumber, maxValue}
 use Rattle.text_format.specs.Document.{maxText}
 use Rattle.text_format.specs.Reading.{word, number, atom, got, breach}
 use Rattle.condition_reader.specs.Steps.{compiled, Fed, Goes, AtomSays, lettered, Inside}
-use Rattle.condition_reader.specs.Words.{returnsNode, endsNode, nodeWord, atomOf, postfix, maxWords}
+use Rattle.condition_reader.specs.Words.{returnsNode, endsNode, nodeWord, atomOf, code, maxWords}
 use Rattle.condition_reader.proofs.NumberLaws.{here}
 use Rattle.condition_reader.specs.declared.Step.{Step}
 use Rattle.condition_reader.specs.declared.Step.the-variants.{At, Breach}
@@ -22,17 +22,17 @@ use Rattle.condition_reader.specs.declared.Atom.the-variants.{Got as Got
 pub put : (out : List ℕ) (n w : ℕ) → n < length out → take (n + 1) (set out n w) ≡ take n out ++ (w ∷ [])
 put out n w h = rw (add-one n, take-suc-set out n w h)
 
-pub put-node : (out : List ℕ) (n w : ℕ) (c : Condition) → n < length out → postfix c ≡ w ∷ []
-    → take (n + 1) (set out n w) ≡ take n out ++ postfix c
+pub put-node : (out : List ℕ) (n w : ℕ) (c : Condition) → n < length out → code c ≡ w ∷ []
+    → take (n + 1) (set out n w) ≡ take n out ++ code c
 put-node out n w c h e = put out n w h ∙ ap (λ (l : List ℕ). take n out ++ l) (sym e)
 
 -- the words of atoms
-pub returns-word : (k v : ℕ) → postfix (atomOf true k v) ≡ nodeWord returnsNode k v ∷ []
-unfolding postfix
+pub returns-word : (k v : ℕ) → code (atomOf true k v) ≡ nodeWord returnsNode k v ∷ []
+unfolding code
 returns-word k v = refl
 
-pub ends-word : (k v : ℕ) → postfix (atomOf false k v) ≡ nodeWord endsNode k v ∷ []
-unfolding postfix
+pub ends-word : (k v : ℕ) → code (atomOf false k v) ≡ nodeWord endsNode k v ∷ []
+unfolding code
 ends-word k v = refl
 
 module _ (made : ℕ → ℕ → Condition) (s r : List ℕ) where

@@ -24,6 +24,13 @@ paid-more k l (Breach v w) (Breach v′ w′) (Breach v″ w″) p q = tt
 paid-more k l (Breach v w) (Breach v′ w′) (At z o) p q = absurd q
 paid-more k l (Breach v w) (At y n) c p q = absurd p
 
+-- less is paid as well
+pub paid-less : (k l : ℕ) (a b : Step) → l ≤ k → Paid k a b → Paid l a b
+paid-less k l (At x m) (At y n) h p = omega arith
+paid-less k l (At x m) (Breach v w) h p = tt
+paid-less k l (Breach v w) (Breach v′ w′) h p = tt
+paid-less k l (Breach v w) (At y n) h p = absurd p
+
 -- the next byte doesn't depend on the words
 pub next-same : (s out : List ℕ) (c : Step) → orNext (stateOf s out c) ≡ orNext (stateOf s [] c)
 next-same s out (At at len) = refl
@@ -74,14 +81,8 @@ module _ (s out : List ℕ) (c a r : Step) (h : Goes s out out 1 (past (word (sp
     state = joint-state andWord true false (λ u e ws. rw e (chosen-past andWord true u ws))
         (stateOf s out c) (stateOf s out a) (stateOf s out r) (h .state) (next-same s out a ∙ t) (g .state);
     fed = g .fed;
-    paid = less-paid c r (paid-more 1 4 c a r (h .paid) (g .paid));
+    paid = paid-less 5 4 c r (omega arith) (paid-more 1 4 c a r (h .paid) (g .paid));
   }
-    where
-      less-paid : (c r : Step) → Paid 5 c r → Paid 4 c r
-      less-paid (At x m) (At y n) p = omega arith
-      less-paid (At x m) (Breach v w) p = tt
-      less-paid (Breach v w) (Breach v′ w′) p = tt
-      less-paid (Breach v w) (At y n) p = absurd p
 
 -- the byte at a place is the first of the rest
 pub next-here : (s : List ℕ) (at len : ℕ) (c : Step) → c ≡ At at len → eqb (getD s at 0) letterO ≡ orNext (stateOf s [] c)

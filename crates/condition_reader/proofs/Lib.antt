@@ -4,4 +4,5 @@ pub mod StepLaws
 pub mod JointLaws
 pub mod AtomLaws
 pub mod OpeningLaws
+pub mod MarkLaws
 pub mod ConditionLaws

@@ -1,10 +1,10 @@
 -- What the readers' answers say of the definitions. A reader goes on from a step: a place of the text, with so many words in the
 -- buffer; or the first breach, which goes through every reader unchanged.
-use Prim.Native.Nat.{ℕ, _+_, _*_, _≤_, _<_}
+use Prim.Native.Nat.{ℕ, _+_, _-_, _*_, _≤_, _<_}
 use mathlib.Core.Path.{_≡_}
 use mathlib.Core.Bool.{Bool, true, false, cond}
 use mathlib.Core.List.{List, [], _∷_, _++_}
-use lib.ListN.{length, take, drop, getD}
+use lib.ListN.{length, take, drop, set, getD}
 use lib.Dec.{eqb}
 use Rattle.text_format.specs.Bytes.{letterR, letterX, letterN, openBracket, letterO}
 use Rattle.text_format.specs.Condition.{Condition}
@@ -21,7 +21,7 @@ use Rattle.condition_reader.specs.declared.Opening.{Opening}
 use Rattle.condition_reader.specs.declared.Opening.the-variants.{Returns, Ends, Not, Bracket, Other}
 use Rattle.condition_reader.specs.declared.Atom.{Atom}
 use Rattle.condition_reader.specs.declared.Atom.the-variants as atom-variants
-use Rattle.condition_reader.specs.Words.{postfix, atomOf, maxWords}
+use Rattle.condition_reader.specs.Words.{code, skipWord, atomOf, maxWords}
 
 -- a number and the place behind it, or the place of the breach
 abbrev pub NumberSays : (s : List ℕ) (from most : ℕ) → Number → Type 0
@@ -48,7 +48,7 @@ unfoldable pub adding : ℕ → List ℕ → List ℕ → Read (List ℕ)
 adding w ws r = got (ws ++ (w ∷ [])) r
 
 unfoldable pub compiled : (List ℕ → Read Condition) → List ℕ → List ℕ → Read (List ℕ)
-compiled reader ws r = andThen (reader r) (λ c t. got (ws ++ postfix c) t)
+compiled reader ws r = andThen (reader r) (λ c t. got (ws ++ code c) t)
 
 -- the place is in the text, and each word so far took four of its bytes
 abbrev pub Fed : List ℕ → Step → Type 0
@@ -110,6 +110,20 @@ pub record Pushes (s before after : List ℕ) (w : ℕ) (c r : Step) : Type 0 wh
   pub fed : Fed s r
   pub owed : Owed 4 c r
 
+-- from the step before a connective's word to the one behind its right side, the words of both are in the buffer
+abbrev pub Spans : List ℕ → Step → Step → Type 0
+Spans out (At a len) (At b len′) = (len < len′) × (len′ ≤ maxWords) × (length out ≡ maxWords)
+Spans out (At a len) (Breach n p) = Unit {0}
+Spans out (Breach n p) (At a len) = Unit {0}
+Spans out (Breach n p) (Breach m q) = Unit {0}
+
+-- the buffer, with the connective's word in its place
+abbrev pub marked : ℕ → Step → Step → List ℕ → List ℕ
+marked kind (At a len) (At b len′) out = set out len (skipWord kind (len′ - len - 1))
+marked kind (At a len) (Breach n p) out = out
+marked kind (Breach n p) (At a len) out = out
+marked kind (Breach n p) (Breach m q) out = out
+
 -- the next byte is an `o`
 abbrev pub orNext : Read (List ℕ) → Bool
 orNext (got ws r) = eqb (getD r 0 0) letterO
@@ -132,7 +146,7 @@ openingOf (breach n r) = Other
 abbrev pub AtomSays : (s : List ℕ) (at : ℕ) (returned : Bool) → Atom → Type 0
 AtomSays s at returned (atom-variants.Got word next) =
     (k : ℕ) × (v : ℕ) × (atom (atomOf returned) (drop (at + 1) s) ≡ got (atomOf returned k v) (drop next s))
-    × (next ≤ length s) × (at + 4 ≤ next) × (postfix (atomOf returned k v) ≡ word ∷ [])
+    × (next ≤ length s) × (at + 4 ≤ next) × (code (atomOf returned k v) ≡ word ∷ [])
 AtomSays s at returned (atom-variants.Breach place) =
     (atom (atomOf returned) (drop (at + 1) s) ≡ breach 19 (drop place s)) × (place ≤ length s)
 

@@ -1,13 +1,13 @@
-// Reads a condition into words in postfix order, by recursion: the depth that remains falls at each call. A step that is a breach
-// goes through every reader unchanged.
+// Reads a condition into words that can be run one after the other, by recursion: the depth that remains falls at each call. A
+// step that is a breach goes through every reader unchanged.
 ghost use Prim.Native.Nat.{_≤_, _<_};
 ghost use mathlib.Core.Path.{_≡_};
 ghost use mathlib.Core.List.{[], _∷_};
 ghost use lib.ListN.{length};
 ghost use Rattle.text_format.specs.Condition.{maxNumber, maxValue};
 ghost use Rattle.text_format.specs.Reading.{condition};
-ghost use Rattle.condition_reader.specs.Words.{atomOf, postfix, jointWord};
-ghost use Rattle.condition_reader.specs.Steps.{NumberSays, FoundSays, AtomSays, JointSays, Room, Fed, Free, Inside, Goes, Skips, Pushes, Halts, compiled, lettered, stateOf, orNext, letterOf, openingOf};
+ghost use Rattle.condition_reader.specs.Words.{atomOf, code, skipWord, jointNode, maxWords};
+ghost use Rattle.condition_reader.specs.Steps.{NumberSays, FoundSays, AtomSays, JointSays, Room, Fed, Free, Inside, Goes, Skips, Pushes, Halts, compiled, lettered, stateOf, Spans, marked, orNext, letterOf, openingOf};
 
 // Room for the words of any condition: each takes four bytes of a text or more.
 pub const WORDS: usize = 512;
@@ -17,7 +17,8 @@ const MAX_NUMBER: u32 = 255;
 
 const MAX_VALUE: u32 = 65535;
 
-// The kinds of words, in byte 0; an atom has its number in byte 1 and its value in bytes 2 and 3.
+// The kinds of words, in byte 0. An atom has its number in byte 1 and its value in bytes 2 and 3; a connective stands behind its
+// left side and has above byte 0 the number of words of its right side, so that they can be skipped.
 pub const RETURNS: u32 = 0;
 
 pub const ENDS: u32 = 1;
@@ -240,7 +241,7 @@ fn halt(text: &[u8], step: Step, number: u8) -> Step
 // The word of an atom.
 fn node(returned: bool, k: u32, v: u32) -> u32
     requires { ⌜ (k ≤ maxNumber) × (v ≤ maxValue) ⌝ }
-    ensures { λ r. ⌜ postfix (atomOf returned k v) ≡ r ∷ [] ⌝ }
+    ensures { λ r. ⌜ code (atomOf returned k v) ≡ r ∷ [] ⌝ }
 {
     if returned {
         RETURNS + 256 * k + 65536 * v
@@ -302,11 +303,38 @@ fn put_atom(text: &[u8], step: Step, returned: bool, words: &mut [u32]) -> Step
     }
 }
 
-// The word of a connective.
-fn joint_word(and: bool) -> u32
-    ensures { λ r. ⌜ r ≡ jointWord and ⌝ }
+// The word of a connective whose right side takes `n` words.
+fn joint_word(and: bool, n: usize) -> u32
+    requires { ⌜ n ≤ maxWords ⌝ }
+    ensures { λ r. ⌜ r ≡ skipWord (jointNode and) n ⌝ }
 {
-    if and { AND } else { OR }
+    if and {
+        AND + 256 * (n as u32)
+    } else {
+        OR + 256 * (n as u32)
+    }
+}
+
+// Puts the word of a connective in its place: `from` is the step before it, `to` the one behind its right side.
+fn mark(words: &mut [u32], from: Step, to: Step, and: bool)
+    requires { ⌜ Spans (now words) from to ⌝ }
+    ensures { λ r. ⌜ now (words .exit) ≡ marked (jointNode and) from to (now (words .entry)) ⌝ }
+{
+    match to {
+        Step::Breach {
+            number: _,
+            place: _,
+        } => {}
+        Step::At { at: _, len } => match from {
+            Step::Breach {
+                number: _,
+                place: _,
+            } => {}
+            Step::At { at: _, len: place } => {
+                words[place] = joint_word(and, len - place - 1);
+            }
+        },
+    }
 }
 
 // A condition in which `depth` levels may still begin.
@@ -335,9 +363,11 @@ pub fn read_condition(text: &[u8], step: Step, depth: u8, words: &mut [u32]) -> 
             let left = read_condition(text, open, depth - 1, words);
             let joint = read_joint(text, left);
             let between = joint.step;
-            let right = read_condition(text, between, depth - 1, words);
+            let behind = push(text, words, between, joint_word(joint.and, 0));
+            let right = read_condition(text, behind, depth - 1, words);
             let close = skip(text, right, b" )");
-            push(text, words, close, joint_word(joint.and))
+            mark(words, between, close, joint.and);
+            close
         }
     }
 }

@@ -1,4 +1,4 @@
--- The facts of a table as an array of rows: a mask for each event in all but the last.
+-- The facts of a table as an array of rows: a mask for each event in all but the last of these.
 use Prim.Native.Nat.{ℕ}
 use mathlib.Core.Path.{_≡_}
 use mathlib.Core.Bool.{Bool}
@@ -50,7 +50,7 @@ peerRow = 7
 abbrev pub setRow : ℕ
 setRow = 8
 
--- the words of the last
+-- the words of the last of them
 abbrev pub goodWord : ℕ
 goodWord = 0
 

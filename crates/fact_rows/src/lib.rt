@@ -31,16 +31,35 @@ pub const RIGHT: usize = 6;
 
 pub const PEERS: usize = 7;
 
+// A row of words.
 pub const SETS: usize = 8;
 
-pub const ROWS: usize = 9;
+// What the values of a text are told by: for each event its location, the value that it states to write, and its operation and
+// operand; for each location the mask of the writers to it, and its initial value. For a block these rows stay empty.
+pub const PLACES: usize = 9;
 
-// The words of the last row.
+pub const WRITTEN: usize = 10;
+
+pub const ACTIONS: usize = 11;
+
+// What an operand counts for in a word of that row: operations are bytes, and so are operands.
+pub const OPERAND: u32 = 256;
+
+pub const WRITERS: usize = 12;
+
+pub const INITIAL: usize = 13;
+
+pub const ROWS: usize = 14;
+
+// The words of the row `SETS`.
 pub const GOOD: usize = 0;
 
 pub const WRONG: usize = 1;
 
 pub const UNMET: usize = 2;
+
+// Of a text: the mask of the events with an operation.
+pub const OPERATED: usize = 3;
 
 // An event with its number, the number of events, the readers and the writers, the events at its location and those of its hart.
 pub struct Around {

@@ -104,14 +104,20 @@ module _ (t : Table) (room : t .count ≤ capacity) where
           rw none
 
 module _ (t : Table) where
-  -- nothing writes to location x
+  -- the writers to location x
+  pub writers-at : (s : Sets) → s ≡ setsOf t → (x : ℕ) → x < maxLocations →
+      bitAnd (s .writers) (getD (s .locations) x 0) ≡ maskBy t (λ w. writes t w && eqb (location t w) x)
+  unfolding setsOf maskBy
+  writers-at s q x l =
+      ap₂ bitAnd (ap (λ (y : Sets). y .writers) q) (location-at t s q x l)
+      ∙ sym (mask-both t (writes t) (λ w. eqb (location t w) x))
+
+  -- there is none
   unwritten-is : (s : Sets) → s ≡ setsOf t → (x : ℕ) → x < maxLocations →
       eqb (bitAnd (s .writers) (getD (s .locations) x 0)) 0 ≡ not (some (t .count) (λ w. writes t w && eqb (location t w) x))
-  unfolding setsOf maskBy
+  unfolding maskBy
   unwritten-is s q x l =
-      ap (λ (m : ℕ). eqb m 0)
-      (ap₂ bitAnd (ap (λ (y : Sets). y .writers) q) (location-at t s q x l)
-      ∙ sym (mask-both t (writes t) (λ w. eqb (location t w) x)))
+      ap (λ (m : ℕ). eqb m 0) (writers-at s q x l)
       ∙ sym (ap not (mask-some (λ w. writes t w && eqb (location t w) x) (t .count)) ∙ twice _)
     where
       twice : (b : Bool) → not (not b) ≡ b

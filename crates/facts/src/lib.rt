@@ -167,5 +167,22 @@ pub fn of_table(t: Table, s: Sets) -> [[u32; CAPACITY]; ROWS]
         e += 1;
     }
     let sets = words(t, s);
-    [own, needs, window, ground, guards, here, right, peers, sets]
+    // The rows that only texts have.
+    let none = [0u32; CAPACITY];
+    [
+        own,
+        needs,
+        window,
+        ground,
+        guards,
+        here,
+        right,
+        peers,
+        sets,
+        none,
+        none,
+        none,
+        none,
+        none,
+    ]
 }

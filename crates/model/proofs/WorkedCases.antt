@@ -7,7 +7,8 @@ use Rattle.model.specs.Cases.{litmusCases}
 use Rattle.model.specs.RuleCases.{mayOrderCases, rule1Cases, rule2Cases, rule3Cases, rule4Cases, rule5Cases, rule6Cases, rule7Cases, rule8Cases, rule9Cases, rule10Cases, rule11Cases, rule12Cases, rule13Cases}
 use Rattle.model.specs.AxiomCases.{loadValueCases, atomicityCases, statedCases, verdictCases, orderCases, prefixCases}
 use Rattle.model.specs.PrunedCases.{settledCases, spoiledCases, prunedCases}
-use Rattle.model.specs.LineCases.{line5Cases, line6Cases, line7Cases, line8Cases, line9Cases, line10Cases, line11Cases, lineOrderCases}
+use Rattle.model.specs.FollowingCases.{followingCases, conditionCases, unknownCases}
+use Rattle.model.specs.LineCases.{line5Cases, line6Cases, line7Cases, textLine7Cases, line8Cases, line9Cases, line10Cases, line11Cases, lineOrderCases}
 use Rattle.model.specs.Worked.{together, headings, worked}
 
 litmus-right : Every litmusCases
@@ -106,6 +107,18 @@ pruned-right : Every prunedCases
 unfolding computes
 pruned-right = (refl, refl, (refl, refl, (refl, refl, (refl, refl, (refl, refl, (refl, refl, (refl, refl, (refl, refl, (refl, refl, (refl, refl, (refl, refl, (refl, refl, (refl, refl, (refl, refl, (refl, refl, (refl, refl, (refl, refl, (refl, refl, (refl, refl, (refl, refl, (refl, refl, (refl, refl, tt))))))))))))))))))))))
 
+following-right : Every followingCases
+unfolding computes
+following-right = (refl, refl, (refl, refl, (refl, refl, (refl, refl, (refl, refl, (refl, refl, (refl, refl, (refl, refl, (refl, refl, (refl, refl, tt))))))))))
+
+condition-right : Every conditionCases
+unfolding computes
+condition-right = (refl, refl, (refl, refl, (refl, refl, (refl, refl, (refl, refl, (refl, refl, (refl, refl, (refl, refl, (refl, refl, (refl, refl, (refl, refl, (refl, refl, (refl, refl, (refl, refl, (refl, refl, (refl, refl, (refl, refl, (refl, refl, tt))))))))))))))))))
+
+unknown-right : Every unknownCases
+unfolding computes
+unknown-right = (refl, refl, (refl, refl, (refl, refl, (refl, refl, (refl, refl, (refl, refl, (refl, refl, (refl, refl, (refl, refl, (refl, refl, (refl, refl, (refl, refl, (refl, refl, (refl, refl, (refl, refl, (refl, refl, (refl, refl, (refl, refl, (refl, refl, (refl, refl, tt))))))))))))))))))))
+
 line5-right : Every line5Cases
 unfolding computes
 line5-right = (tt, refl, (tt, refl, (tt, refl, (tt, refl, (tt, refl, (tt, refl, (tt, refl, (tt, refl, (tt, refl, (tt, refl, (tt, refl, (tt, refl, (tt, refl, (tt, refl, (tt, refl, (tt, refl, (tt, refl, (tt, refl, (tt, refl, (tt, refl, (tt, refl, (tt, refl, tt))))))))))))))))))))))
@@ -117,6 +130,10 @@ line6-right = (tt, refl, (tt, refl, (tt, refl, (tt, refl, (tt, refl, (tt, refl, 
 line7-right : Every line7Cases
 unfolding computes
 line7-right = (tt, refl, (tt, refl, (tt, refl, (tt, refl, (tt, refl, (tt, refl, (tt, refl, (tt, refl, (tt, refl, (tt, refl, (tt, refl, (tt, refl, (tt, refl, (tt, refl, (tt, refl, (tt, refl, (tt, refl, (tt, refl, (tt, refl, (tt, refl, (tt, refl, (tt, refl, (tt, refl, (tt, refl, (tt, refl, (tt, refl, (tt, refl, (tt, refl, (tt, refl, (tt, refl, (tt, refl, (tt, refl, (tt, refl, (tt, refl, (tt, refl, (tt, refl, (tt, refl, (tt, refl, (tt, refl, (tt, refl, (tt, refl, (tt, refl, (tt, refl, (tt, refl, (tt, refl, (tt, refl, (tt, refl, (tt, refl, (tt, refl, (tt, refl, (tt, refl, (tt, refl, (tt, refl, (tt, refl, (tt, refl, (tt, refl, (tt, refl, (tt, refl, (tt, refl, (tt, refl, (tt, refl, (tt, refl, (tt, refl, (tt, refl, (tt, refl, (tt, refl, (tt, refl, (tt, refl, (tt, refl, (tt, refl, (tt, refl, (tt, refl, (tt, refl, (tt, refl, (tt, refl, (tt, refl, (tt, refl, (tt, refl, (tt, refl, (tt, refl, (tt, refl, (tt, refl, (tt, refl, tt)))))))))))))))))))))))))))))))))))))))))))))))))))))))))))))))))))))))))))))))))))
+
+text-line7-right : Every textLine7Cases
+unfolding computes
+text-line7-right = (tt, refl, (tt, refl, (tt, refl, (tt, refl, (tt, refl, (tt, refl, (tt, refl, (tt, refl, (tt, refl, (tt, refl, (tt, refl, (tt, refl, (tt, refl, (tt, refl, (tt, refl, (tt, refl, (tt, refl, (tt, refl, (tt, refl, (tt, refl, (tt, refl, (tt, refl, (tt, refl, (tt, refl, tt))))))))))))))))))))))))
 
 line8-right : Every line8Cases
 unfolding computes
@@ -153,4 +170,4 @@ all-together [] r = tt
 all-together (cs ∷ rest) r = both cs (together rest) (r .0) (all-together rest (r .1))
 
 pub worked-right : Every worked
-worked-right = all-together headings (litmus-right, (may-order-right, (rule1-right, (rule2-right, (rule3-right, (rule4-right, (rule5-right, (rule6-right, (rule7-right, (rule8-right, (rule9-right, (rule10-right, (rule11-right, (rule12-right, (rule13-right, (load-value-right, (atomicity-right, (stated-right, (verdict-right, (order-right, (prefix-right, (settled-right, (spoiled-right, (pruned-right, (line5-right, (line6-right, (line7-right, (line8-right, (line9-right, (line10-right, (line11-right, (line-order-right, tt))))))))))))))))))))))))))))))))
+worked-right = all-together headings (litmus-right, (may-order-right, (rule1-right, (rule2-right, (rule3-right, (rule4-right, (rule5-right, (rule6-right, (rule7-right, (rule8-right, (rule9-right, (rule10-right, (rule11-right, (rule12-right, (rule13-right, (load-value-right, (atomicity-right, (stated-right, (verdict-right, (order-right, (prefix-right, (settled-right, (spoiled-right, (pruned-right, (following-right, (condition-right, (unknown-right, (line5-right, (line6-right, (line7-right, (text-line7-right, (line8-right, (line9-right, (line10-right, (line11-right, (line-order-right, tt))))))))))))))))))))))))))))))))))))

@@ -3,15 +3,17 @@
 use Prim.Native.Nat.{ℕ, _-_}
 use mathlib.Core.Path.{_≡_}
 use mathlib.Core.Bool.{Bool, true, false, cond}
-use mathlib.Core.List.{List, [], _∷_, _++_}
+use mathlib.Core.List.{List, [], _∷_, _++_, map}
 use lib.ListN.{length, replicate}
 use Rattle.lists.specs.Below.{below}
-use Rattle.lists.specs.Lists.{kept}
+use Rattle.lists.specs.Lists.{kept, keep}
 use Rattle.edition.specs.Limits.{Edition, one, two, mostEvents}
 use Rattle.table.specs.declared.Event.{Event}
 use Rattle.table.specs.declared.Table.{Table}
+use Rattle.table.specs.Events.{reads}
 use Rattle.refusals.specs.Lines.{Refused, accepted, firstLine}
-use Rattle.refusals.specs.TableLines.{tableLines}
+use Rattle.refusals.specs.TableLines.{textLine7, tableLinesBy, tableLines}
+use Rattle.text_format.specs.Condition.{Condition}
 use Rattle.prefixes.specs.Answer.{Answer}
 use Rattle.model.specs.Rules.{ppo, staticPpo, ruleSet}
 use Rattle.model.specs.Returns.{returns}
@@ -20,6 +22,7 @@ use Rattle.model.specs.Witness.{isOrder, lawful, witness}
 use Rattle.model.specs.Verdict.{Verdict, verdict}
 use Rattle.model.specs.Prefixes.{clean, cleanPrefixes, search, witnesses}
 use Rattle.model.specs.Settled.{settled, spoiled, unpruned, unprunedPrefixes, searchPruned}
+use Rattle.model.specs.Following.{returnedValue, endValue, meets as meetsCondition, namesUnknown}
 
 abbrev pub x : ℕ
 x = 0
@@ -186,6 +189,10 @@ orderedPairs t rf = pairsFrom t rf (below (t .count))
 abbrev pub namedWriter : Table → List ℕ → List ℕ → ℕ → List ℕ
 namedWriter t rf gmo l = kept (breaksAtomicity t rf gmo l) (atomicityWriter t rf gmo l) []
 
+-- the values that follow from an order: what each reader returns, and what each location ends at
+abbrev pub allValues : Table → List ℕ → List ℕ
+allValues t gmo = map (returnedValue t gmo) (keep (reads t) (below (t .count))) ++ map (endValue t gmo) (below (t .locations))
+
 -- the refusal of a table by lines 5 to 11, with the most events that the edition allows; extra: a byte that is no field and is
 -- named zero isn't
 abbrev pub refusalIn : Edition → Bool → Table → Refused
@@ -193,6 +200,10 @@ refusalIn e extra t = firstLine (t .count) (tableLines (mostEvents e) extra t)
 
 abbrev pub refusal : Bool → Table → Refused
 refusal = refusalIn one
+
+-- the refusal of a text's table
+abbrev pub textRefusal : Table → Refused
+textRefusal t = firstLine (t .count) (tableLinesBy (textLine7 t) (mostEvents two) false t)
 
 -- What is stated of a case.
 pub data Claim : Type 0 where
@@ -229,6 +240,12 @@ pub data Claim : Type 0 where
   visitedCount : Table → ℕ → Claim
   -- its answer from a start with an allowance
   searchedPruned : Table → (start : List ℕ) → (allowance : ℕ) → Answer → Claim
+  -- all values that follow from an order of a text
+  gives : Table → (gmo values : List ℕ) → Claim
+  -- the order makes the condition true, or not
+  makes : Table → (gmo : List ℕ) → Condition → Bool → Claim
+  -- the condition names an event that doesn't read or a location not in the test, or not
+  misnames : Table → Condition → Bool → Claim
   -- lines 5 to 11 accept the table
   accepts : Table → Claim
   -- they refuse it, by this
@@ -238,6 +255,9 @@ pub data Claim : Type 0 where
   -- the same of edition 2
   acceptsWide : Table → Claim
   refusesWide : Refused → Table → Claim
+  -- the same of a text
+  acceptsText : Table → Claim
+  refusesText : Refused → Table → Claim
 
 abbrev pub Right : Claim → Type 0
 Right (allWitnesses t ws) = witnesses t ≡ ws
@@ -258,15 +278,24 @@ Right (visits t p b) = unpruned t p ≡ b
 Right (allVisited t ps) = unprunedPrefixes t ≡ ps
 Right (visitedCount t n) = length (unprunedPrefixes t) ≡ n
 Right (searchedPruned t s b r) = searchPruned t s b ≡ r
+Right (gives t gmo vs) = allValues t gmo ≡ vs
+Right (makes t gmo c b) = meetsCondition t c gmo ≡ b
+Right (misnames t c b) = namesUnknown t c ≡ b
 Right (accepts t) = refusal false t ≡ accepted
 Right (refuses r t) = refusal false t ≡ r
 Right (refusesWithBytes r t) = refusal true t ≡ r
 Right (acceptsWide t) = refusalIn two false t ≡ accepted
 Right (refusesWide r t) = refusalIn two false t ≡ r
+Right (acceptsText t) = textRefusal t ≡ accepted
+Right (refusesText r t) = textRefusal t ≡ r
 
 -- lines 5 to 11 accept the table
 abbrev pub Passes : Table → Type 0
 Passes t = refusal false t ≡ accepted
+
+-- they accept the table of a text
+abbrev pub TextPasses : Table → Type 0
+TextPasses t = textRefusal t ≡ accepted
 
 -- the table of a case passes, unless it is there to be refused
 abbrev pub Accepted : Claim → Type 0
@@ -287,11 +316,16 @@ Accepted (visits t p b) = Passes t
 Accepted (allVisited t ps) = Passes t
 Accepted (visitedCount t n) = Passes t
 Accepted (searchedPruned t s b r) = Passes t
+Accepted (gives t gmo vs) = TextPasses t
+Accepted (makes t gmo c b) = TextPasses t
+Accepted (misnames t c b) = TextPasses t
 Accepted (accepts t) = Unit {0}
 Accepted (refuses r t) = Unit {0}
 Accepted (refusesWithBytes r t) = Unit {0}
 Accepted (acceptsWide t) = Unit {0}
 Accepted (refusesWide r t) = Unit {0}
+Accepted (acceptsText t) = Unit {0}
+Accepted (refusesText r t) = Unit {0}
 
 abbrev pub Every : List Claim → Type 0
 Every [] = Unit {0}

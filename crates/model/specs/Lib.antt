@@ -6,11 +6,13 @@ pub mod Verdict
 pub mod Says
 pub mod Prefixes
 pub mod Settled
+pub mod Following
 pub mod Computes
 pub mod Claims
 pub mod Cases
 pub mod RuleCases
 pub mod AxiomCases
 pub mod PrunedCases
+pub mod FollowingCases
 pub mod LineCases
 pub mod Worked

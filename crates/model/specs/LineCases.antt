@@ -1,4 +1,5 @@
--- "When the bench declines a table": lines 5 to 11, each clause for each kind, with what is accepted beside it.
+-- "When the bench declines a table": lines 5 to 11, each clause for each kind, with what is accepted beside it; line 7 also of
+-- texts.
 use Prim.Native.Nat.{ℕ, _+_, _^_}
 use mathlib.Core.List.{List, [], _∷_, _++_}
 use lib.ListN.{replicate}
@@ -9,6 +10,7 @@ use Rattle.model.specs.Claims.{x, y, access, blankEvent, loads, stores, 
 use Rattle.model.specs.Claims.{flagged, addressOn, dataOn, controlOn, operated, event0, event1, event2}
 use Rattle.model.specs.Claims.{acquireRCpc, acquireRCsc, releaseRCpc, releaseRCsc, filled, plainTest, valued}
 use Rattle.model.specs.Claims.{Claim, accepts, refuses, refusesWithBytes, acceptsWide, refusesWide}
+use Rattle.model.specs.Claims.{acceptsText, refusesText}
 
 -- two harts, two locations
 abbrev program : List Event → Table
@@ -223,6 +225,40 @@ line7Cases =
     ∷ refuses (byRecord 7 0) (operates 5 10 12 10)
     ∷ refuses (byRecord 7 0) (operates 6 10 12 12)
     ∷ refuses (byRecord 7 0) (operates 1 65535 1 65535)
+    ∷ []
+
+-- "The value read must be 0 in every line, and so must the written value of an AMO with an operation .. (a breach is 7; T-05's
+-- check of that value isn't made in texts)"
+abbrev pub textLine7Cases : List Claim
+textLine7Cases =
+    -- the value read, of each reader
+    acceptsText (alone (loads 0 x 0))
+    ∷ acceptsText (alone (reserved 0 x 0))
+    ∷ acceptsText (operates 0 0 0 0)
+    ∷ refusesText (byRecord 7 1) (second (loads 0 x 1))
+    ∷ refusesText (byRecord 7 1) (second (reserved 0 x 1))
+    ∷ refusesText (byRecord 7 1) (second (swaps 0 x 1 0))
+    -- the written value of an AMO, with an operation and without, and of others
+    ∷ refusesText (byRecord 7 0) (operates 1 0 1 1)
+    ∷ accepts (operates 1 0 1 1)
+    ∷ acceptsText (operates 1 0 1 0)
+    ∷ refuses (byRecord 7 0) (operates 1 0 1 0)
+    ∷ acceptsText (operates 6 0 9 0)
+    ∷ acceptsText (operates 0 0 0 5)
+    ∷ acceptsText (alone (stores 0 x 5))
+    ∷ acceptsText (secondOfPair (conditional 0 x 5))
+    -- all else is asked as of a block
+    ∷ refusesText (byRecord 7 0) (alone (access 8 0 0 0 0))
+    ∷ refusesText (byRecord 7 1) (second (access 1 0 x 0 1))
+    ∷ refusesText (byRecord 7 1) (second (access 6 0 y 0 0))
+    ∷ refusesText (byRecord 7 0) (operates 7 0 0 0)
+    ∷ refusesText (byRecord 7 0) (operates 0 0 1 0)
+    -- the lowest record, after 5 and before 8; texts have up to 30 events
+    ∷ refusesText (byRecord 7 1) (program (flagged releaseRCpc (loads 0 x 0) ∷ loads 0 x 1 ∷ loads 0 x 1 ∷ []))
+    ∷ refusesText (byRecord 8 0) (program (flagged releaseRCpc (loads 0 x 0) ∷ loads 0 x 0 ∷ []))
+    ∷ acceptsText (plainTest 1 1 (replicate 30 (loads 0 x 0)))
+    ∷ refusesText (byLine 5) (plainTest 1 1 (replicate 31 (loads 0 x 1)))
+    ∷ refusesText (byLine 11) (alone (fullFence 0))
     ∷ []
 
 -- "both acquires or both releases at once; a reader with release and no acquire; a plain store or SC with acquire and no release";

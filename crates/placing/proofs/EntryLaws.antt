@@ -93,8 +93,8 @@ module _ {t : Table} {gmo : List ℕ} (k : Kept t gmo) where
         ∙ written-either t (location t e) f (lastWrite t (take i gmo) (location t e)) (ltb f (t .count))
         (λ h. event-initial t (k .table .small) f (ltb-true f (t .count) h))
 
-    e-in : has e gmo ≡ true
-    e-in = all-getD (λ x. has x gmo) gmo i (has-all (λ x. has x gmo) gmo (λ x h. h)) l
+    pub entry-in : has e gmo ≡ true
+    entry-in = all-getD (λ x. has x gmo) gmo i (has-all (λ x. has x gmo) gmo (λ x h. h)) l
 
     -- it is the stated one exactly if the order says so
     entry-stated : not (breaksValueRead t (returns t gmo) e) ≡ statedAt t gmo i
@@ -106,7 +106,7 @@ module _ {t : Table} {gmo : List ℕ} (k : Kept t gmo) where
             ≡ (not b || eqb (valueNow t (among gmo i) (finalValue t (take i gmo)) e) (event t e .read))
         go true h =
             ap (λ (v : ℕ). eqb v (event t e .read))
-            (ap (writtenValue t (location t e)) (returns-at t gmo e (counted k e e-in) h) ∙ entry-value)
+            (ap (writtenValue t (location t e)) (returns-at t gmo e (counted k e entry-in) h) ∙ entry-value)
         go false h = refl
 
   -- every reader is an entry

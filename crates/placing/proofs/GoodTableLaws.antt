@@ -1,4 +1,4 @@
--- A table that none of lines 5 to 11 refuses is good.
+-- A table that none of lines 5 to 11 refuses is good, of a block or a text.
 use Prim.Native.Nat.{ℕ, _<_}
 use native.Mathlib.Omega.{arith}
 use mathlib.Core.Path.{_≡_, refl, sym, _∙_}
@@ -14,8 +14,8 @@ use Rattle.table.specs.Events.{capacity, event, kind, hart, location, reads, wr
 use Rattle.table.specs.Events.{memoryKind, fencingKind, lr, sc, store, fencetso}
 use Rattle.table.specs.Annotations.{addressDepends, dataDepends}
 use Rattle.table.proofs.ProgramOrderLaws.{po-hart, po-cases}
-use Rattle.refusals.specs.TableLines.{outside, fieldOutOfRange, fieldsWrong, line7, names, namesWrongly, line9, pairedHere, line10}
-use Rattle.refusals.proofs.InRange.{places-in-range}
+use Rattle.refusals.specs.TableLines.{outside, fieldOutOfRange, names, namesWrongly, line9, pairedHere, line10}
+use Rattle.refusals.proofs.InRange.{AsksRange, places-in-range}
 use Rattle.refusals.proofs.TablePassed.{TablePassed}
 use Rattle.placing.specs.Guards.{depends}
 use Rattle.placing.specs.GoodTable.{GoodTable}
@@ -46,13 +46,13 @@ module _ (t : Table) where
       ⊎-elim (λ h. absurd (paired-between l m s j p q h)) (⊎-elim (λ (h : l ≡ m). h) (λ h. absurd (paired-between m l s i q p h)))
       (po-cases t l m (po-hart t l s (paired-parts l s p .0) ∙ sym (po-hart t m s (paired-parts m s q .0))))
 
-module _ (most : ℕ) (extra : Bool) (t : Table) (room : most < capacity) (passed : TablePassed most extra t) where
+module _ (asked : ℕ → Bool) (most : ℕ) (extra : Bool) (t : Table) (range : AsksRange t asked) (room : most < capacity)
+    (passed : TablePassed asked most extra t) where
   field-fits : (e : ℕ) → e < t .count → fieldOutOfRange (t .harts) (t .locations) (event t e) ≡ false
-  unfolding line7 fieldsWrong
-  field-fits e l = let h = none-at (t .count) (line7 t) e (passed .fields) l in search (or-l, or-r) depth 7
+  field-fits e l = range e (none-at (t .count) asked e (passed .fields) l)
 
   places : (e : ℕ) → e < t .count → (hart t e < t .harts) × (location t e < t .locations)
-  places e l = places-in-range t e (none-at (t .count) (line7 t) e (passed .fields) l)
+  places e l = places-in-range t e (field-fits e l)
 
   kind-fits : (e : ℕ) → e < t .count → outside (kind t e) fencetso ≡ false
   unfolding fieldOutOfRange kind

@@ -8,3 +8,5 @@ pub mod RereadLaws
 pub mod PlacingLaws
 pub mod EntryLaws
 pub mod GoodTableLaws
+pub mod FollowingLaws
+pub mod StatedLaws

@@ -1,11 +1,13 @@
-// Lines 7 and 8: tests of one record's fields. They take the event and not the table, which is copied at each call.
+// Lines 7 and 8: tests of one record's fields, line 7 for blocks and for texts. They take the event and not the table, which is
+// copied at each call.
 use operation::Operation;
 use table::Event;
 use table::Kind;
 ghost use mathlib.Core.Path.{_≡_};
 ghost use mathlib.Core.Bool.{_&&_, _||_};
 ghost use Rattle.table.specs.Annotations.{acquirePc, acquireSc, releasePc, releaseSc};
-ghost use Rattle.refusals.specs.TableLines.{fieldOutOfRange, valueNotZero, fenceNotZero, operationOutOfRange, operandNotZero, notApplied, fieldsWrong, annotationsWrong};
+ghost use Rattle.refusals.specs.TableLines.{fieldOutOfRange, valueNotZero, fenceNotZero, operationOutOfRange, operandNotZero};
+ghost use Rattle.refusals.specs.TableLines.{notApplied, shapeWrong, fieldsWrong, valueStated, annotationsWrong};
 
 // Flags have four bits.
 const FLAGS: u8 = 16;
@@ -51,16 +53,35 @@ fn not_applied(e: Event) -> bool
         & (e.written != operation::apply(e.operation, e.read, e.operand))
 }
 
-// Line 7 of a record, in a test with so many harts and locations.
-pub fn line7(harts: u8, locations: u8, e: Event) -> bool
-    ensures { λ r. ⌜ r ≡ fieldsWrong harts locations e ⌝ }
+// What line 7 asks of blocks and texts, in a test with so many harts and locations.
+fn shape_wrong(harts: u8, locations: u8, e: Event) -> bool
+    ensures { λ r. ⌜ r ≡ shapeWrong harts locations e ⌝ }
 {
     field_out_of_range(harts, locations, e)
         | value_not_zero(e)
         | fence_not_zero(e)
         | operation_out_of_range(e)
         | operand_not_zero(e)
-        | not_applied(e)
+}
+
+// Line 7 of a record.
+pub fn line7(harts: u8, locations: u8, e: Event) -> bool
+    ensures { λ r. ⌜ r ≡ fieldsWrong harts locations e ⌝ }
+{
+    shape_wrong(harts, locations, e) | not_applied(e)
+}
+
+fn value_stated(e: Event) -> bool
+    ensures { λ r. ⌜ r ≡ valueStated e ⌝ }
+{
+    (e.read != 0) | ((e.operation != Operation::NONE) & (e.written != 0))
+}
+
+// Line 7 of a record of a text, where the values read follow from the order.
+pub fn text_line7(harts: u8, locations: u8, e: Event) -> bool
+    ensures { λ r. ⌜ r ≡ (shapeWrong harts locations e || valueStated e) ⌝ }
+{
+    shape_wrong(harts, locations, e) | value_stated(e)
 }
 
 fn acquires(flags: u8) -> bool

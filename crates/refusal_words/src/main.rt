@@ -1,7 +1,12 @@
 // Prints the table of the refusals in words, which is to be that of docs/refusals.txt.
 use console::Line;
 
-const REFUSALS: u8 = 18;
+// The numbers of refusals; those between aren't given yet.
+const LAST: u8 = 23;
+
+const FIRST_FREE: u8 = 21;
+
+const LAST_FREE: u8 = 22;
 
 fn row(n: u8) {
     let begun = Line::output().number(console::wide(n)).text(b"\t");
@@ -10,8 +15,10 @@ fn row(n: u8) {
 
 fn main() {
     let mut n: u8 = 1;
-    while n <= REFUSALS {
-        row(n);
+    while n <= LAST {
+        if (n < FIRST_FREE) | (LAST_FREE < n) {
+            row(n);
+        }
         n += 1;
     }
 }

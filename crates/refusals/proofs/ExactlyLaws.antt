@@ -7,7 +7,8 @@ use mathlib.Core.Logic.{⊎-elim}
 use Rattle.lists.specs.Below.{lowest, some}
 use Rattle.lists.specs.Lists.{_∈_}
 use Rattle.lists.proofs.SomeLaws.{is-lowest}
-use Rattle.refusals.specs.Lines.{Refused, accepted, byLine, byRecord, Line, whole, record-of, refusedIf, firstLine}
+use Rattle.refusals.specs.Lines.{Refused, accepted, byLine, byRecord, byPlace}
+use Rattle.refusals.specs.Lines.{Line, whole, record-of, place-of, refusedIf, firstLine}
 use Rattle.refusals.specs.Exactly.{holds, NoneHolds, Exactly}
 
 none : (n : ℕ) → NoneHolds n []
@@ -21,6 +22,7 @@ later : (n : ℕ) (l : Line) (ls : List Line) → holds n l ≡ false → (r : R
 later n l ls e accepted h = one-more n l ls e h
 later n l ls e (byLine k) h = (l ∷ h .0, h .1, ap (λ (m : List Line). l ∷ m) (h .2), one-more n l (h .0) e (h .3))
 later n l ls e (byRecord k i) h = (l ∷ h .0, h .1, h .2, ap (λ (m : List Line). l ∷ m) (h .3), one-more n l (h .0) e (h .4), h .5)
+later n l ls e (byPlace k p) h = (l ∷ h .0, h .1, ap (λ (m : List Line). l ∷ m) (h .2), one-more n l (h .0) e (h .3))
 
 pub first-exactly : (n : ℕ) (ls : List Line) → Exactly n ls (firstLine n ls)
 unfolding firstLine
@@ -36,3 +38,9 @@ first-exactly n (record-of k f ∷ ls) = go (some n f) refl (first-exactly n ls)
         Exactly n (record-of k f ∷ ls) (refusedIf c (byRecord k (lowest n f)) (firstLine n ls))
     go true e h = ([], ls, f, refl, none n, is-lowest n f e)
     go false e h = later n (record-of k f) ls e (firstLine n ls) h
+first-exactly n (place-of k p b ∷ ls) = go b refl (first-exactly n ls)
+  where
+    go : (c : Bool) → b ≡ c → Exactly n ls (firstLine n ls) →
+        Exactly n (place-of k p b ∷ ls) (refusedIf c (byPlace k p) (firstLine n ls))
+    go true e h = ([], ls, ap (λ (x : Bool). place-of k p x ∷ ls) e, none n)
+    go false e h = later n (place-of k p b) ls e (firstLine n ls) h

@@ -6,14 +6,16 @@ use mathlib.Core.List.{List, [], _∷_, _++_}
 use mathlib.Core.Logic.{_≢_}
 use Rattle.lists.specs.Below.{lowest, some}
 use Rattle.lists.specs.Reply.{refused}
-use Rattle.refusals.specs.Lines.{Refused, accepted, byLine, byRecord, Line, whole, record-of, refusedIf, firstLine, unless, replyUnless}
-use Rattle.refusals.proofs.LineLaws.{line-refuses, record-refuses}
+use Rattle.refusals.specs.Lines.{Refused, accepted, byLine, byRecord, byPlace}
+use Rattle.refusals.specs.Lines.{Line, whole, record-of, place-of, refusedIf, firstLine, unless, replyUnless}
+use Rattle.refusals.proofs.LineLaws.{line-refuses, record-refuses, place-refuses}
 
 -- a refusal, or else the next
 abbrev orNext : Refused → Refused → Refused
 orNext accepted next = next
 orNext (byLine k) next = byLine k
 orNext (byRecord k i) next = byRecord k i
+orNext (byPlace k p) next = byPlace k p
 
 -- the first of both lists is that of the first, or else that of the second
 first-of-both : (n : ℕ) (ls ms : List Line) → firstLine n (ls ++ ms) ≡ orNext (firstLine n ls) (firstLine n ms)
@@ -26,6 +28,10 @@ first-of-both n (record-of k f ∷ ls) ms =
     let r : Refused = byRecord k (lowest n f) in
     elim (some n f) as (λ c. refusedIf c r (firstLine n (ls ++ ms)) ≡ orNext (refusedIf c r (firstLine n ls)) (firstLine n ms))
     [ true ↦ refl | false ↦ first-of-both n ls ms ]
+first-of-both n (place-of k p b ∷ ls) ms =
+    let r : Refused = byPlace k p in
+    elim b as (λ c. refusedIf c r (firstLine n (ls ++ ms)) ≡ orNext (refusedIf c r (firstLine n ls)) (firstLine n ms))
+    [ true ↦ refl | false ↦ first-of-both n ls ms ]
 
 -- where the two lists together refuse nothing, neither does
 pub passed-both : (n : ℕ) (ls ms : List Line) → firstLine n (ls ++ ms) ≡ accepted →
@@ -36,6 +42,7 @@ passed-both n ls ms h = go (firstLine n ls) (sym (first-of-both n ls ms) ∙ h)
     go accepted e = (refl, e)
     go (byLine k) e = absurd (line-refuses k e)
     go (byRecord k i) e = absurd (record-refuses k i e)
+    go (byPlace k p) e = absurd (place-refuses k p e)
 
 -- a refusal by the first list stands
 pub refused-first : (n : ℕ) (ls ms : List Line) → firstLine n ls ≢ accepted → firstLine n (ls ++ ms) ≡ firstLine n ls
@@ -45,6 +52,7 @@ refused-first n ls ms h = first-of-both n ls ms ∙ go (firstLine n ls) h
     go accepted h = absurd (h refl)
     go (byLine k) h = refl
     go (byRecord k i) h = refl
+    go (byPlace k p) h = refl
 
 -- where the first list refuses nothing, the second decides
 pub passed-first : (n : ℕ) (ls ms : List Line) → firstLine n ls ≡ accepted → firstLine n (ls ++ ms) ≡ firstLine n ms
@@ -61,6 +69,7 @@ module _ {A : Type 0} (n : ℕ) (ls ms : List Line) (a : A) where
       same accepted k = absurd (k refl)
       same (byLine i) k = refl
       same (byRecord i j) k = refl
+      same (byPlace i p) k = refl
 
   -- it doesn't: the entry's own lines decide
   pub entry-own : firstLine n ls ≡ accepted → replyUnless (firstLine n ms) a ≡ replyUnless (firstLine n (ls ++ ms)) a
@@ -71,3 +80,4 @@ pub unless-refused : {A : Type 0} (r : Refused) (a b : A) → r ≢ accepted →
 unless-refused accepted a b k = absurd (k refl)
 unless-refused (byLine i) a b k = refl
 unless-refused (byRecord i j) a b k = refl
+unless-refused (byPlace i p) a b k = refl

@@ -87,13 +87,25 @@ operandNotZero e = eqb (e .operation) noOperation && not (eqb (e .operand) 0)
 unfoldable pub notApplied : Event → Bool
 notApplied e = not (eqb (e .operation) noOperation) && not (eqb (e .written) (applied (e .operation) (e .read) (e .operand)))
 
+-- what blocks and texts ask of a record
+unfoldable pub shapeWrong : ℕ → ℕ → Event → Bool
+shapeWrong harts locations e =
+    fieldOutOfRange harts locations e || valueNotZero e || fenceNotZero e || operationOutOfRange e || operandNotZero e
+
 -- one of these holds of a record
 unfoldable pub fieldsWrong : ℕ → ℕ → Event → Bool
-fieldsWrong harts locations e =
-    fieldOutOfRange harts locations e || valueNotZero e || fenceNotZero e || operationOutOfRange e || operandNotZero e || notApplied e
+fieldsWrong harts locations e = shapeWrong harts locations e || notApplied e
 
 unfoldable pub line7 : Table → ℕ → Bool
 line7 t k = fieldsWrong (t .harts) (t .locations) (event t k)
+
+-- "The value read must be 0 in every line, and so must the written value of an AMO with an operation": it isn't
+unfoldable pub valueStated : Event → Bool
+valueStated e = not (eqb (e .read) 0) || not (eqb (e .operation) noOperation) && not (eqb (e .written) 0)
+
+-- 7, of a text: "T-05's check of that value isn't made in texts"
+unfoldable pub textLine7 : Table → ℕ → Bool
+textLine7 t k = shapeWrong (t .harts) (t .locations) (event t k) || valueStated (event t k)
 
 -- 8: "both acquires or both releases at once"
 unfoldable pub bothAtOnce : Event → Bool
@@ -145,11 +157,17 @@ line10 t k = eqb (kind t k) sc && not (some (t .count) (pairedHere t k))
 unfoldable pub line11 : Table → Bool
 line11 t = not (some (t .count) (memory t))
 
--- lines 7 to 11
-unfoldable pub recordLines : Table → List Line
-recordLines t =
-    record-of 7 (line7 t) ∷ record-of 8 (line8 t) ∷ record-of 9 (line9 t) ∷ record-of 10 (line10 t) ∷ whole 11 (line11 t) ∷ []
+-- lines 7 to 11, by what line 7 asks of a record
+unfoldable pub recordLinesBy : (ℕ → Bool) → Table → List Line
+recordLinesBy asked t =
+    record-of 7 asked ∷ record-of 8 (line8 t) ∷ record-of 9 (line9 t) ∷ record-of 10 (line10 t) ∷ whole 11 (line11 t) ∷ []
 
--- lines 5 to 11, in their order
+unfoldable pub recordLines : Table → List Line
+recordLines t = recordLinesBy (line7 t) t
+
+-- lines 5 to 11, in their order, by what line 7 asks of a record
+unfoldable pub tableLinesBy : (asked : ℕ → Bool) (most : ℕ) (extra : Bool) → Table → List Line
+tableLinesBy asked most extra t = whole 5 (line5 most t) ∷ whole 6 (extra || line6 t) ∷ recordLinesBy asked t
+
 unfoldable pub tableLines : (most : ℕ) (extra : Bool) → Table → List Line
-tableLines most extra t = whole 5 (line5 most t) ∷ whole 6 (extra || line6 t) ∷ recordLines t
+tableLines most extra t = tableLinesBy (line7 t) most extra t

@@ -1,7 +1,7 @@
 -- Each trip, once the refusal of its first half is known.
 use Prim.Native.Nat.{ℕ}
 use mathlib.Core.Path.{_≡_, refl, sym, ap, subst, _∙_}
-use mathlib.Core.Bool.{Bool, true, false, not, or-true}
+use mathlib.Core.Bool.{Bool, true, false, not}
 use mathlib.Core.List.{List, [], _∷_, _++_}
 use mathlib.Core.Logic.{_≢_}
 use lib.ListN.{length}
@@ -12,10 +12,11 @@ use Rattle.table.specs.declared.Table.{Table}
 use Rattle.decode.specs.Layout.{editionOf}
 use Rattle.decode.specs.Decoded.{decodedAs, decoded}
 use Rattle.refusals.specs.Lines.{Refused, accepted, byLine, byRecord, whole, firstLine, unless}
+use Rattle.refusals.proofs.InRange.{too-many}
 use Rattle.refusals.proofs.LineLaws.{whole-here, whole-next}
 use Rattle.refusals.proofs.PassedLaws.{refused-first, passed-first, unless-refused}
 use Rattle.refusals.proofs.TablePassed.{fewer-passed}
-use Rattle.refusals.specs.TableLines.{headerWrong, line5, tableLines}
+use Rattle.refusals.specs.TableLines.{tableLinesBy, tableLines}
 use Rattle.block.specs.Reading.{readingLines, readRefusal, readTable, noTable}
 use Rattle.block.proofs.ReadingLaws.{passed-header, passed-edition}
 use Rattle.zero_bytes.specs.ZeroBytes.{bytesNotZero}
@@ -55,14 +56,9 @@ few-passed s ok h =
     let e = editionOf s in
     fewer-passed (mostEvents e) (mostEvents one) (bytesNotZero e s) (decodedAs e s) (passed-edition e s (passed-header s ok .1) .1) (ltb-false (mostEvents one) (decoded s .count) h)
 
--- it has none: line 5 holds
-too-many : (most : ℕ) (t : Table) → ltb most (t .count) ≡ true → line5 most t ≡ true
-unfolding line5 headerWrong
-too-many most t h = simp (or-true, h) refl
-
 -- the writer's refusal of a table that fits the buffer
 many-refused : (t : Table) (out : List ℕ) → bufferWrong out ≡ false → ltb (mostEvents one) (t .count) ≡ true → writeRefusal t out ≡ byLine 5
-unfolding writeRefusal writingLines tableLines
+unfolding writeRefusal writingLines tableLines tableLinesBy
 many-refused t out b h = sym (whole-next _ _ _ _ _ b (whole-here _ _ _ _ (too-many (mostEvents one) t h)))
 
 few-accepted : (t : Table) (out : List ℕ) → bufferWrong out ≡ false → firstLine (t .count) (tableLines (mostEvents one) false t) ≡ accepted

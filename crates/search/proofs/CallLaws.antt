@@ -20,10 +20,15 @@ use Rattle.prefixes.specs.Answer.{Answer, noneLeft}
 use Rattle.prefixes.specs.Listed.{after}
 use Rattle.prefixes.specs.Statements.{seek}
 use Rattle.prefixes.proofs.AnswerLaws.{seek-answer}
-use Rattle.model.specs.Witness.{witnessFor, statedOutcome, witness}
+use Rattle.model.specs.Witness.{witnessFor, statedOutcome}
+use Rattle.model.specs.Following.{meets}
 use Rattle.model.specs.Prefixes.{clean, prefixesBy, searchBy}
 use Rattle.placing.specs.GoodTable.{GoodTable}
 use Rattle.fact_rows.specs.FactRows.{Facts}
+use Rattle.fact_rows.specs.ValueRows.{Values}
+use Rattle.condition_reader.specs.Words.{code as wordsOf}
+use Rattle.condition_test.specs.Wanted.{Wants}
+use Rattle.condition_test.proofs.WantedLaws.{code-wanted}
 use Rattle.successors.specs.CleanMasks.{slots, limit, cleanBy}
 use Rattle.engine.specs.State.{Began}
 use Rattle.engine.specs.Entered.{reachable, always}
@@ -36,12 +41,12 @@ use Rattle.witness_walk.specs.declared.Ending.the-variants.{Found, NoneLeft, Sp
 use Rattle.witness_walk.specs.Ending.{answerOf}
 use Rattle.witness_walk.specs.declared.Path.{Path}
 use Rattle.witness_walk.specs.declared.Followed.the-variants.{Reached, Cut}
-use Rattle.witness_walk.specs.Running.{AtMost, Enters, Watching, Follows, LeftOf, Runs, searchFrom}
+use Rattle.witness_walk.specs.Running.{AtMost, Enters, Watching, Seeking, Follows, LeftOf, Runs, searchFrom}
 use Rattle.witness_walk.proofs.EntersLaws.{enters-always}
 use Rattle.witness_walk.proofs.RunLaws.{clean-is}
 use Rattle.refusals.specs.declared.Refusal.the-variants.{Line as Line·}
 use Rattle.search.specs.declared.Start.the-variants.{At, Unlisted}
-use Rattle.search.specs.Begins.{Beginning, BeginsAs, Replied, Searches}
+use Rattle.search.specs.Begins.{Beginning, BeginsAs, Replied, Searches, SearchesFor}
 use Rattle.search.specs.declared.Reply as code
 use Rattle.search.specs.declared.Reply.the-variants.{Refused as Declined, Answered}
 use Rattle.search.specs.Replies.{replyOf, lengthOf, maxAllowance, startLines, tableReply, bufferAfter, prefixLength}
@@ -177,52 +182,60 @@ module _ {facts : List (List ℕ)} {preds start order : List ℕ} {mem watched :
     begun = λ t enters w. f t enters (w .known) (w .entering) (sym (clean-is w (take len order)) ∙ began .holds .clean);
   }
 
--- The replies of a call, for each list that the watched readers make.
+-- The replies of a call, for each outcome that the words say and each list that the watched readers make.
 module _ {t : Table} {facts : List (List ℕ)} {preds : List ℕ} {mem watched : ℕ} (f : Facts t facts) (p : preds ≡ predecessorMasks t)
     (m : mem ≡ memoryMask t) (start out : List ℕ) (b : ℕ) where
   watch : {enters : List ℕ → Bool} → Enters t watched enters → Watching t facts preds mem watched enters
   watch e = record { known = f; predecessors = p; memory = m; entering = e }
 
   -- refused by a line
-  line-replied : (n : ℕ) → ((enters : List ℕ → Bool) → Enters t watched enters →
+  line-replied : {words : List ℕ} (n : ℕ) → ((enters : List ℕ → Bool) → Enters t watched enters →
       byLine n ≡ firstLine (t .count) (startLines t (reachable (clean t) enters) start out b)) →
-      Searches t watched start out b (Declined (Line· n)) out
-  line-replied n f enters e =
-      let r = call-refused t (reachable (clean t) enters) (statedOutcome t) start out b n (f enters e) in
+      Searches t facts words watched start out b (Declined (Line· n)) out
+  line-replied n f outcome enters e k =
+      let r = call-refused t (reachable (clean t) enters) outcome start out b n (f enters e) in
       record { reply = r .0; buffer = r .1 .0; length = r .1 .1 }
 
-  pub unlisted-replied : (order goods : List ℕ) → BeginsAs facts preds mem watched start order goods Unlisted →
-      Searches t watched start out b (Declined (Line· 15)) out
+  pub unlisted-replied : {words : List ℕ} (order goods : List ℕ) → BeginsAs facts preds mem watched start order goods Unlisted →
+      Searches t facts words watched start out b (Declined (Line· 15)) out
   unlisted-replied order goods u = line-replied 15 (λ enters e. start-refused t (reachable (clean t) enters) start out b (u t enters (watch e)))
 
   module _ {order goods : List ℕ} {from : Path} (g : Beginning facts preds mem watched start order goods from) where
     listed : {enters : List ℕ → Bool} → Enters t watched enters → reachable (clean t) enters start ≡ true
     listed {enters} e = ap (reachable (clean t) enters) (sym (g .same)) ∙ g .begun t enters (watch e) .reached
 
-    pub room-replied : length out < memoryCount t → Searches t watched start out b (Declined (Line· 16)) out
+    pub room-replied : {words : List ℕ} → length out < memoryCount t → Searches t facts words watched start out b (Declined (Line· 16)) out
     room-replied h = line-replied 16 (λ enters e. room-refused t (reachable (clean t) enters) start out b (listed e) h)
 
-    pub allowance-replied : memoryCount t ≤ length out → maxAllowance < b → Searches t watched start out b (Declined (Line· 17)) out
+    pub allowance-replied : {words : List ℕ} → memoryCount t ≤ length out → maxAllowance < b → Searches t facts words watched start out b (Declined (Line· 17)) out
     allowance-replied h k = line-replied 17 (λ enters e. allowance-refused t (reachable (clean t) enters) start out b (listed e) h k)
 
     -- the answer of the walk, handed out
-    pub walk-replied : (o : Ending) (last : List ℕ) (r : code.Reply) (left : List ℕ) → memoryCount t ≤ length out → b ≤ maxAllowance →
-        Runs facts preds mem watched order goods from b o last →
+    pub walk-replied : {words : List ℕ} (o : Ending) (last : List ℕ) (r : code.Reply) (left : List ℕ) → memoryCount t ≤ length out → b ≤ maxAllowance →
+        Runs facts words preds mem watched order goods from b o last →
         (replyOf r left ≡ answered (answerOf o last)) × ((left ≡ bufferAfter (answered (answerOf o last)) out)
         × (lengthOf r ≡ prefixLength (answered (answerOf o last)))) →
-        Searches t watched start out b r left
-    unfolding witness
-    walk-replied o last r left h k ran d enters e =
-        let run = ran t enters (watch e) (g .begun t enters (watch e)) in
-        let said = answer-is t (reachable (clean t) enters) (statedOutcome t) start out b o last
+        Searches t facts words watched start out b r left
+    walk-replied o last r left h k ran d outcome enters e f =
+        let run = ran t outcome enters (watch e) f (g .begun t enters (watch e)) in
+        let said = answer-is t (reachable (clean t) enters) outcome start out b o last
         (none-refused t (reachable (clean t) enters) start out b (listed e) h k)
-        (subst (λ (q : List ℕ). answerOf o last ≡ searchFrom t enters q b 0) (g .same) run) in
-        let c = call-answered t (reachable (clean t) enters) (statedOutcome t) start out b (answered (answerOf o last)) (replyOf r left)
+        (subst (λ (q : List ℕ). answerOf o last ≡ searchFrom t outcome enters q b 0) (g .same) run) in
+        let c = call-answered t (reachable (clean t) enters) outcome start out b (answered (answerOf o last)) (replyOf r left)
         (lengthOf r) left said d in
         record { reply = c .0; buffer = c .1 .0; length = c .1 .1 }
 
 -- along the clean prefixes, where no reader is watched
-pub replied-always : (t : Table) (start out : List ℕ) (b : ℕ) {r : code.Reply} {after : List ℕ} → Searches t 0 start out b r after →
-    Replied t (clean t) start out b r after
-replied-always t start out b {r} {after} s =
-    subst (λ (ok : List ℕ → Bool). Replied t ok start out b r after) (reachable-always (clean t)) (s always (enters-always t))
+pub replied-always : {t : Table} {facts : List (List ℕ)} {words : List ℕ} (outcome : List ℕ → Bool) (start out : List ℕ) (b : ℕ)
+    {r : code.Reply} {after : List ℕ} → Wants t facts words outcome → Searches t facts words 0 start out b r after →
+    Replied t (clean t) outcome start out b r after
+replied-always {t} outcome start out b {r} {after} w s =
+    subst (λ (ok : List ℕ → Bool). Replied t ok outcome start out b r after) (reachable-always (clean t))
+    (s outcome always (enters-always t) (record { wanted = w; witnesses = λ gmo h. refl }))
+
+-- for a condition, whose words these are
+pub replied-for : {t : Table} {facts : List (List ℕ)} {words : List ℕ} (start out : List ℕ) (b : ℕ) {r : code.Reply} {after : List ℕ} →
+    Values t facts → Searches t facts words 0 start out b r after → SearchesFor t words start out b r after
+replied-for {t} {facts} start out b {r} {after} v s c e f known =
+    replied-always {words = wordsOf c} (meets t c) start out b (code-wanted t facts c f known v)
+    (subst (λ (ws : List ℕ). Searches t facts ws 0 start out b r after) e s)

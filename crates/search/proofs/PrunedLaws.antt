@@ -13,7 +13,7 @@ use Rattle.masks.proofs.MaskOfLaws.{mask-below}
 use Rattle.table.specs.declared.Table.{Table}
 use Rattle.table.specs.Events.{reads, memory}
 use Rattle.model.specs.Returns.{finalValue}
-use Rattle.model.specs.Witness.{isMemoryEvent, witness}
+use Rattle.model.specs.Witness.{isMemoryEvent, statedOutcome, witness}
 use Rattle.model.specs.Prefixes.{isPrefix, clean}
 use Rattle.model.specs.Settled.{spoiled, unpruned}
 use Rattle.placing.specs.Guards.{readsStated}
@@ -64,7 +64,6 @@ module _ {t : Table} (good : GoodTable t) {watched : ℕ} (every : watched ≡ s
         let d = clean-parts p e c in
         ap not (spoiled-more (good .small) p e (d .0)) ∙ step (spoiled t p) _ (not-true (spoiled t p) h) ∙ asked p e (reads t e) refl
         ∙ ap (λ (b : Bool). not b || readsStated t (λ a. has a p) (finalValue t p) e) (sym (watched-is e (d .1)));
-    witnesses = λ gmo h. ap not (witness-unspoiled good gmo h);
   }
     where
       step : (s r : Bool) → s ≡ false → not (s || not r) ≡ r
@@ -73,7 +72,10 @@ module _ {t : Table} (good : GoodTable t) {watched : ℕ} (every : watched ≡ s
       step false false h = refl
 
   -- a call along the prefixes that aren't pruned
-  pub replied-pruned : (start out : List ℕ) (b : ℕ) {r : code.Reply} {after : List ℕ} → Searches t watched start out b r after →
-      Replied t (unpruned t) start out b r after
+  pub replied-pruned : {facts : List (List ℕ)} (start out : List ℕ) (b : ℕ) {r : code.Reply} {after : List ℕ} →
+      Searches t facts [] watched start out b r after → Replied t (unpruned t) (statedOutcome t) start out b r after
+  unfolding witness
   replied-pruned start out b {r} {after} s =
-      subst (λ (ok : List ℕ → Bool). Replied t ok start out b r after) (reach-unpruned t) (s (unspoiled t) enters-unspoiled)
+      subst (λ (ok : List ℕ → Bool). Replied t ok (statedOutcome t) start out b r after) (reach-unpruned t)
+      (s (statedOutcome t) (unspoiled t) enters-unspoiled
+      (record { wanted = refl; witnesses = λ gmo h. ap not (witness-unspoiled good gmo h) }))

@@ -1,18 +1,20 @@
 -- A search call along the prefixes that a walk gets to: how it begins, and what it replies.
 use Prim.Native.Nat.{ℕ}
 use mathlib.Core.Path.{_≡_}
-use mathlib.Core.Bool.{Bool, false}
+use mathlib.Core.Bool.{Bool, true, false}
 use mathlib.Core.List.{List}
 use mathlib.Core.Logic.{_⊎_}
 use lib.ListN.{length, take}
 use Rattle.table.specs.declared.Table.{Table}
-use Rattle.model.specs.Witness.{statedOutcome}
+use Rattle.text_format.specs.Condition.{Condition, fits}
+use Rattle.condition_reader.specs.Words.{code as wordsOf}
+use Rattle.model.specs.Following.{meets, namesUnknown}
 use Rattle.model.specs.Prefixes.{clean}
 use Rattle.successors.specs.CleanMasks.{slots}
 use Rattle.engine.specs.State.{Holds}
 use Rattle.engine.specs.Entered.{reachable}
 use Rattle.witness_walk.specs.declared.Path.{Path}
-use Rattle.witness_walk.specs.Running.{Enters, Watching, Begun}
+use Rattle.witness_walk.specs.Running.{Enters, Watching, Seeking, Begun}
 use Rattle.search.specs.declared.Start.{Start}
 use Rattle.search.specs.declared.Start.the-variants.{At, Unlisted}
 use Rattle.search.specs.declared.Reply as code
@@ -33,13 +35,20 @@ BeginsAs facts preds mem watched start order goods (At from) = Beginning facts p
 BeginsAs facts preds mem watched start order goods Unlisted =
     (t : Table) (enters : List ℕ → Bool) → Watching t facts preds mem watched enters → reachable (clean t) enters start ≡ false
 
--- a call along the prefixes that pass, for the outcome that the table states: the reply, the buffer and the length
-pub record Replied (t : Table) (passes : List ℕ → Bool) (start out : List ℕ) (b : ℕ) (r : code.Reply) (after : List ℕ) : Type 0 where
-  pub reply : replyOf r after ≡ tableReply t passes (statedOutcome t) start out b
-  pub buffer : after ≡ bufferAfter (tableReply t passes (statedOutcome t) start out b) out
-  pub length : lengthOf r ≡ prefixLength (tableReply t passes (statedOutcome t) start out b)
+-- a call along the prefixes that pass, for an outcome: the reply, the buffer and the length
+pub record Replied (t : Table) (passes outcome : List ℕ → Bool) (start out : List ℕ) (b : ℕ) (r : code.Reply) (after : List ℕ) : Type 0 where
+  pub reply : replyOf r after ≡ tableReply t passes outcome start out b
+  pub buffer : after ≡ bufferAfter (tableReply t passes outcome start out b) out
+  pub length : lengthOf r ≡ prefixLength (tableReply t passes outcome start out b)
 
--- the same for each list that these watched readers make
-abbrev pub Searches : Table → ℕ → List ℕ → List ℕ → ℕ → code.Reply → List ℕ → Type 0
-Searches t watched start out b r after =
-    (enters : List ℕ → Bool) → Enters t watched enters → Replied t (reachable (clean t) enters) start out b r after
+-- the same for each outcome that the words say, and each list that these watched readers make
+abbrev pub Searches : Table → List (List ℕ) → List ℕ → ℕ → List ℕ → List ℕ → ℕ → code.Reply → List ℕ → Type 0
+Searches t facts words watched start out b r after =
+    (outcome enters : List ℕ → Bool) → Enters t watched enters → Seeking t facts words outcome enters →
+    Replied t (reachable (clean t) enters) outcome start out b r after
+
+-- the same along the clean prefixes, for the condition whose words these are
+abbrev pub SearchesFor : Table → List ℕ → List ℕ → List ℕ → ℕ → code.Reply → List ℕ → Type 0
+SearchesFor t words start out b r after =
+    (c : Condition) → words ≡ wordsOf c → fits c ≡ true → namesUnknown t c ≡ false →
+    Replied t (clean t) (meets t c) start out b r after

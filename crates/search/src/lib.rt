@@ -22,10 +22,11 @@ ghost use Rattle.model.specs.Settled.{unpruned};
 ghost use Rattle.successors.specs.Waiting.{Prepared};
 ghost use Rattle.placing.specs.GoodTable.{GoodTable};
 ghost use Rattle.event_sets.specs.Sets.{setsOf};
+ghost use Rattle.fact_rows.specs.FactRows.{Facts};
 ghost use Rattle.witness_walk.specs.Ending.{answerOf};
 ghost use Rattle.witness_walk.specs.Running.{AtMost};
 ghost use Rattle.search.specs.Replies.{tableReply, bufferAfter, replyOf, lengthOf, prefixLength};
-ghost use Rattle.search.specs.Begins.{BeginsAs, Searches};
+ghost use Rattle.search.specs.Begins.{BeginsAs, Searches, SearchesFor};
 
 // A reply to a search call; the prefix of Found and Spent stands at the front of the answer buffer.
 pub enum Reply {
@@ -108,27 +109,28 @@ fn begin(
     }
 }
 
-// A search call on a table along the prefixes that a walk gets to which watches these readers: refusals 15, 16 and 17, the reply
-// and the buffer.
-pub fn search_watching(
+// A search call on a table for what the words say (without words, the outcome that it states), along the prefixes that a walk
+// gets to which watches these readers: refusals 15, 16 and 17, the reply and the buffer.
+pub fn search_by(
     t: Table,
     s: Sets,
+    facts: &[[u32; CAPACITY]; ROWS],
+    words: &[u32],
     watched: u32,
     start: &[u8],
     out: &mut [u8],
     allowance: u64,
 ) -> Reply
-    requires { ⌜ GoodTable t × (s ≡ setsOf t) ⌝ }
-    ensures { λ r. ⌜ Searches t watched (now (start .entry)) (now (out .entry)) allowance r (now (out .exit)) ⌝ }
+    requires { ⌜ GoodTable t × (s ≡ setsOf t) × Facts t (now facts) ⌝ }
+    ensures { λ r. ⌜ Searches t (now (facts .entry)) (now (words .entry)) watched (now (start .entry)) (now (out .entry)) allowance r (now (out .exit)) ⌝ }
 {
     let pred = precedence::predecessors(t, s);
     let mem = table::memory_mask(t);
     let succ = successors::successors(&pred, mem);
-    let facts = facts::of_table(t, s);
     let mut order = [0u8; SLOTS];
     let mut goods = [0u32; SLOTS];
     let begun = begin(
-        &facts,
+        facts,
         &pred,
         &succ,
         mem,
@@ -147,7 +149,8 @@ pub fn search_watching(
                 return Reply::Refused(Refusal::Line(17));
             }
             let ending = witness_walk::walk(
-                &facts,
+                facts,
+                words,
                 &pred,
                 &succ,
                 mem,
@@ -170,7 +173,9 @@ pub fn search(t: Table, start: &[u8], out: &mut [u8], allowance: u64) -> Reply
     ensures { λ r. ⌜ lengthOf r ≡ prefixLength (tableReply t (clean t) (statedOutcome t) (now (start .entry)) (now (out .entry)) allowance) ⌝ }
 {
     let s = event_sets::of_table(t);
-    search_watching(t, s, 0, start, out, allowance)
+    let facts = facts::of_table(t, s);
+    let words = [0u32; 0];
+    search_by(t, s, &facts, &words, 0, start, out, allowance)
 }
 
 // The same along the prefixes that aren't pruned: every reader is watched.
@@ -181,5 +186,18 @@ pub fn search_pruned(t: Table, start: &[u8], out: &mut [u8], allowance: u64) -> 
     ensures { λ r. ⌜ lengthOf r ≡ prefixLength (tableReply t (unpruned t) (statedOutcome t) (now (start .entry)) (now (out .entry)) allowance) ⌝ }
 {
     let s = event_sets::of_table(t);
-    search_watching(t, s, s.readers, start, out, allowance)
+    let facts = facts::of_table(t, s);
+    let words = [0u32; 0];
+    search_by(t, s, &facts, &words, s.readers, start, out, allowance)
+}
+
+// A search call on a table along its clean prefixes, for the condition of the words.
+pub fn search_for(t: Table, words: &[u32], start: &[u8], out: &mut [u8], allowance: u64) -> Reply
+    requires { ⌜ GoodTable t ⌝ }
+    ensures { λ r. ⌜ SearchesFor t (now (words .entry)) (now (start .entry)) (now (out .entry)) allowance r (now (out .exit)) ⌝ }
+{
+    let s = event_sets::of_table(t);
+    let mut facts = facts::of_table(t, s);
+    value_rows::add_values(t, s, &mut facts);
+    search_by(t, s, &facts, words, 0, start, out, allowance)
 }

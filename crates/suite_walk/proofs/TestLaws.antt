@@ -14,7 +14,7 @@ use Rattle.edition.specs.Limits.{two, editionNumber, testLength, blockLength}
 use Rattle.decode.specs.Layout.{byteAt, editionAt, secondIf, editionOf}
 use Rattle.decode.specs.Decoded.{decodedAs}
 use Rattle.suite_part.specs.Part.{blockOf, inSuite, blockCount}
-use Rattle.refusals.specs.Lines.{Refused, accepted, byLine, byRecord, unless}
+use Rattle.refusals.specs.Lines.{Refused, accepted, byLine, byRecord, byPlace, unless}
 use Rattle.refusals.proofs.LineLaws.{whole-off}
 use Rattle.block.specs.Reading.{line2, line3, lengthWrong, lengthLines, readRefusal}
 use Rattle.block.proofs.ReadingLaws.{states, passed-header, passed-edition}
@@ -140,6 +140,7 @@ passes-length t h = go (readRefusal t) refl h
     go accepted e h = accepted-length t e
     go (byLine n) e h = absurd (false≢true h)
     go (byRecord n k) e h = absurd (false≢true h)
+    go (byPlace n p) e h = absurd (false≢true h)
 
 -- no other test is as long
 pub good-long : (s : List ℕ) (k : ℕ) → length (testOf s k) ≡ testLength two → passes (testOf s k) ≡ goodTwo s k

@@ -1,23 +1,28 @@
-// Lines 5 to 11 of the table of refusals, each a test of the table, and the first that holds.
+// Lines 5 to 11 of the table of refusals, each a test of the table, and the first that holds, of a block and of a text.
+use edition::EditionTwo;
 use masks::lowest_set;
 use masks::one_if;
+use operation::Operation;
 use refusals::Refusal;
+use table::Event;
 use table::EventNo;
 use table::Kind;
 use table::Table;
 ghost use Prim.Native.Nat.{_≤_};
 ghost use mathlib.Core.Path.{_≡_};
-ghost use mathlib.Core.Bool.{not, _||_};
+ghost use mathlib.Core.Bool.{false, not, _||_};
 ghost use mathlib.Core.List.{[], _∷_};
 ghost use lib.Dec.{eqb};
 ghost use Rattle.lists.specs.Below.{lowest, below};
 ghost use Rattle.lists.specs.Lists.{keep};
 ghost use Rattle.masks.specs.MaskOf.{maskOf};
+ghost use Rattle.edition.specs.Limits.{two, mostEvents};
 ghost use Rattle.table.specs.Events.{capacity, kind, sc, memoryMask};
 ghost use Rattle.refusals.specs.Lines.{firstLine, whole, record-of};
-ghost use Rattle.refusals.specs.TableLines.{line7, line8, line9, line10, line11, recordLines, tableLines};
+ghost use Rattle.refusals.specs.TableLines.{line7, line8, line9, line10, line11, textLine7, recordLines, tableLinesBy, tableLines};
 ghost use Rattle.refusals.specs.Refusals.{refusalOf};
 ghost use Rattle.dependency_lines.proofs.DependencyLaws.{dependsOnNone};
+ghost use Rattle.table_lines.specs.AsBlock.{asBlock, AsBlock};
 
 // Masks of the records: those that line 7 refuses, and line 8; those that lines 9 and 10 may refuse; the memory events.
 struct Marks {
@@ -154,4 +159,55 @@ pub fn refuse(t: Table, most: usize, extra: bool) -> Refusal
         return Refusal::Line(6);
     }
     refuse_records(t)
+}
+
+// No record may have it.
+const NO_KIND: u8 = 0;
+
+// A record of a text as one of a block: of no kind where line 7 of a text refuses it; and without its operation, for which no
+// later line asks.
+fn as_block(harts: u8, locations: u8, e: Event) -> Event
+    ensures { λ r. ⌜ r ≡ asBlock harts locations e ⌝ }
+{
+    let mut record = e;
+    record.operation = Operation::NONE;
+    record.operand = 0;
+    if record_lines::text_line7(harts, locations, e) {
+        record.kind = NO_KIND;
+    }
+    record
+}
+
+fn table_as_block(t: Table) -> Table
+    requires { ⌜ t .count ≤ capacity ⌝ }
+    ensures { λ r. ⌜ AsBlock t r ⌝ }
+{
+    let mut events = t.events;
+    let mut k: u8 = 0;
+    while k < t.count {
+        events[k as usize] = as_block(t.harts, t.locations, t.events[k as usize]);
+        k += 1;
+    }
+    let initial = t.initial;
+    let finals = t.finals;
+    Table {
+        harts: t.harts,
+        locations: t.locations,
+        count: t.count,
+        stated: t.stated,
+        initial,
+        events,
+        finals,
+    }
+}
+
+// The first of lines 5 to 11 that holds of a text's table. They are asked of it as a block's: second callers of the functions above
+// would cost each block that is read further copies of its table.
+pub fn refuse_text(t: Table) -> Refusal
+    ensures { λ r. ⌜ refusalOf r ≡ firstLine (t .count) (tableLinesBy (textLine7 t) (mostEvents two) false t) ⌝ }
+{
+    if EditionTwo::EVENTS < t.count as usize {
+        return Refusal::Line(5);
+    }
+    refuse(table_as_block(t), EditionTwo::EVENTS, false)
 }

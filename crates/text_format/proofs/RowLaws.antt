@@ -27,7 +27,7 @@ part-line (n ∷ ms) m = part-then (part-number m) (λ v. part-then (part-word s
 abbrev pub linesIn : List ℕ → Read (List (List ℕ))
 linesIn s = eventLines (suc (length s)) s
 
-line-shorter : (s l r : List ℕ) → line fieldBounds s ≡ got l r → length r < length s
+pub line-shorter : (s l r : List ℕ) → line fieldBounds s ≡ got l r → length r < length s
 line-shorter s l r h = let e = line-sound _ 255 s l r bounds-fair h .0 in
     omega (arith, ap length e, length-append (lineOf l) r, line-some l)
 
@@ -48,22 +48,22 @@ lines-same (suc n) (suc m) s h k = ap (λ (t : Read (List (List ℕ))). cond (eq
     go (breach i r) e ih = refl
 
 -- behind a first byte that is known
-behind : {B : Type 0} (b : ℕ) (r : List ℕ) (f : List ℕ → List ℕ → Read B) → eqb (getD r 0 0) (suc b) ≡ true
+pub behind : {B : Type 0} (b : ℕ) (r : List ℕ) (f : List ℕ → List ℕ → Read B) → eqb (getD r 0 0) (suc b) ≡ true
     → andThen (word (suc b ∷ []) r) f ≡ f [] (drop 1 r)
 unfolding word
 behind b [] f h = let z : 0 ≡ suc b = eqb-true 0 (suc b) h in absurd (omega arith)
 behind b (c ∷ r) f h = rw h
 
-abbrev blank : List ℕ → Read (List (List ℕ))
+abbrev pub blank : List ℕ → Read (List (List ℕ))
 blank s = andThen (word (newline ∷ []) s) (λ _ t. got [] t)
 
-abbrev onward : List ℕ → List ℕ → Read (List (List ℕ))
+abbrev pub onward : List ℕ → List ℕ → Read (List (List ℕ))
 onward l r = andThen (linesIn r) (λ ls t. got (l ∷ ls) t)
 
-abbrev lined : List ℕ → Read (List (List ℕ))
+abbrev pub lined : List ℕ → Read (List (List ℕ))
 lined s = andThen (line fieldBounds s) onward
 
-lines-step : (s : List ℕ) → linesIn s ≡ cond (eqb (getD s 0 0) newline) (blank s) (lined s)
+pub lines-step : (s : List ℕ) → linesIn s ≡ cond (eqb (getD s 0 0) newline) (blank s) (lined s)
 unfolding eventLines
 lines-step s = go (eqb (getD s 0 0) newline) refl
   where
@@ -119,13 +119,13 @@ part-lines = record { next = lines-next; next⁺ = lines-next; reads = λ s. lin
 abbrev pub valuesIn : List ℕ → Read (List ℕ)
 valuesIn s = values (suc (length s)) s
 
-abbrev added : ℕ → List ℕ → Read (List ℕ)
+abbrev pub added : ℕ → List ℕ → Read (List ℕ)
 added v r = andThen (word (space ∷ []) r) (λ _ t. andThen (valuesIn t) (λ vs t. got (v ∷ vs) t))
 
-abbrev closed : ℕ → List ℕ → Read (List ℕ)
+abbrev pub closed : ℕ → List ℕ → Read (List ℕ)
 closed v r = andThen (word (newline ∷ []) r) (λ _ t. got (v ∷ []) t)
 
-abbrev behindValue : ℕ → List ℕ → Read (List ℕ)
+abbrev pub behindValue : ℕ → List ℕ → Read (List ℕ)
 behindValue v r = cond (eqb (getD r 0 0) space) (added v r) (closed v r)
 
 number-shorter : (s : List ℕ) (v : ℕ) (r : List ℕ) → number maxValue s ≡ got v r → length r ≤ length s
@@ -157,7 +157,7 @@ values-same (suc n) (suc m) s h k = go (number maxValue s) refl (λ r p q. value
     go (got v r) e ih = at v r (number-shorter s v r e) ih (eqb (getD r 0 0) space) refl
     go (breach i r) e ih = refl
 
-values-step : (s : List ℕ) → valuesIn s ≡ andThen (number maxValue s) behindValue
+pub values-step : (s : List ℕ) → valuesIn s ≡ andThen (number maxValue s) behindValue
 unfolding values
 values-step s = go (number maxValue s) refl
   where

@@ -1,8 +1,6 @@
 // Reads a stream of search calls of both engines, single ones and those of walks, and prints a line for each.
 use console::Input;
-use console::Line;
 use search::Reply;
-use witness_walk::Ending;
 
 // A call from the start that it is given, and one from the walk's own; in small letters those of the second engine.
 const SEARCH: u8 = b'S';
@@ -20,27 +18,11 @@ enum Effect {
     Called(usize),
 }
 
-fn visited(line: Line, n: u64) -> Line {
-    line.number(n).text(b" visited")
-}
-
-fn prefix(line: Line, n: u64, len: usize) -> Line {
-    visited(line, n).text(b", length ").number(len as u64)
-}
-
-fn ended(line: Line, o: Ending) -> Line {
-    match o {
-        Ending::Found { len, visited: n } => prefix(line.text(b"found, "), n, len),
-        Ending::NoneLeft { visited: n } => visited(line.text(b"none left, "), n),
-        Ending::Spent { len, visited: n } => prefix(line.text(b"spent, "), n, len),
-    }
-}
-
 fn line(k: u64, reply: Reply, answer: &[u8]) {
     let begun = calls::begin(k);
     let said = match reply {
         Reply::Refused(r) => words::refused(begun, r),
-        Reply::Answered(o) => ended(begun, o),
+        Reply::Answered(o) => search_line::ended(begun, o),
     };
     calls::end(said, answer);
 }
@@ -74,15 +56,7 @@ fn single(k: u64, pruned: bool, block: &[u8]) {
     );
 }
 
-fn copy(from: &[u8], n: usize, to: &mut [u8]) {
-    let mut i: usize = 0;
-    while i < n && i < from.len() && i < to.len() {
-        to[i] = from[i];
-        i += 1;
-    }
-}
-
-// The next call of the walk. Makes its next start: what was written, or the start again. Answers that one's length.
+// The next call of the walk; answers the length of its next start.
 fn advance(
     k: u64,
     pruned: bool,
@@ -93,17 +67,7 @@ fn advance(
 ) -> usize {
     match search(k, pruned, block, console::front(start, len), answer) {
         Reply::Refused(_) => len,
-        Reply::Answered(o) => match o {
-            Ending::NoneLeft { visited: _ } => len,
-            Ending::Found { len: n, visited: _ } => {
-                copy(answer, n, start);
-                n
-            }
-            Ending::Spent { len: n, visited: _ } => {
-                copy(answer, n, start);
-                n
-            }
-        },
+        Reply::Answered(o) => search_line::next_start(o, answer, start, len),
     }
 }
 

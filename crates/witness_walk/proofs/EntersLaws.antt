@@ -82,5 +82,4 @@ pub enters-always : (t : Table) → Enters t 0 always
 enters-always t = record {
   none = refl;
   more = λ p e c h. sym (ap (λ (x : Bool). not x || readsStated t (λ a. has a p) (finalValue t p) e) (bit-zero e));
-  witnesses = λ gmo h. refl;
 }

@@ -23,11 +23,11 @@ use Rattle.table.proofs.MemoryLaws.{memory-has}
 use Rattle.prefixes.specs.Listed.{after}
 use Rattle.prefixes.specs.Answer.{found, noneLeft, spent}
 use Rattle.model.specs.Returns.{finalValue}
-use Rattle.model.specs.Witness.{isOrder, statedOutcome, witness}
+use Rattle.model.specs.Witness.{isOrder, witnessFor}
 use Rattle.model.specs.Prefixes.{clean}
 use Rattle.model.proofs.PrefixLaws.{passing-listed, passing-ascending, clean-closed}
 use Rattle.order_facts.specs.Facts.{maskBy, good}
-use Rattle.order_test.specs.Testing.{Judges}
+use Rattle.condition_test.specs.Wanted.{Witnesses}
 use Rattle.successors.specs.CleanMasks.{slots, cleanBy}
 use Rattle.successors.specs.Waiting.{Prepared}
 use Rattle.ready_events.proofs.CleanLaws.{event}
@@ -39,7 +39,7 @@ use Rattle.engine.proofs.StepLaws.{Standing, Ahead, ahead-start, startFrom, low
 use Rattle.engine.proofs.StepLaws.{next-mask, next-front, whole-shut, ahead-end, ahead-back, ahead-next, ahead-on, ahead-past}
 use Rattle.precedence.specs.Precedence.{predecessorMasks}
 use Rattle.precedence.proofs.PrecedenceLaws.{clean-same, whole-mask, whole-order, not-whole}
-use Rattle.witness_walk.specs.Running.{Watching, EntersBy, goodBehind, GoodsTo, Begun, listOf, searchFrom}
+use Rattle.witness_walk.specs.Running.{Watching, Seeking, EntersBy, goodBehind, GoodsTo, Begun, listOf, searchFrom}
 use Rattle.witness_walk.proofs.EntersLaws.{enters-is, goods-more}
 
 -- What the masks and facts of a table tell.
@@ -69,36 +69,36 @@ module _ {t : Table} {facts : List (List ℕ)} {preds : List ℕ} {mem watched :
   pub whole-is-order : (p : List ℕ) → clean t p ≡ true → maskOf p ≡ mem → isOrder t p ≡ true
   whole-is-order p h e = whole-order t few p h (whole-mask t few p h .0 (e ∙ w .memory))
 
-  pub part-is-none : (p : List ℕ) → clean t p ≡ true → (maskOf p ≡ mem → ⊥) → witness t p ≡ false
-  unfolding witness
-  part-is-none p h n = not-whole t (statedOutcome t) p (λ q. n (whole-mask t few p h .1 q ∙ sym (w .memory)))
+  pub part-is-none : (outcome : List ℕ → Bool) (p : List ℕ) → clean t p ≡ true → (maskOf p ≡ mem → ⊥) → witnessFor t outcome p ≡ false
+  part-is-none outcome p h n = not-whole t outcome p (λ q. n (whole-mask t few p h .1 q ∙ sym (w .memory)))
 
-  -- what isn't entered is no witness
-  pub unentered-is-none : (p : List ℕ) → enters p ≡ false → witness t p ≡ false
-  unentered-is-none p h = is-false _ (λ q. true≢false (sym (w .entering .witnesses p q) ∙ h))
+-- what isn't entered is no witness
+unentered-is-none : {t : Table} {facts : List (List ℕ)} {words : List ℕ} {outcome enters : List ℕ → Bool} →
+    Seeking t facts words outcome enters → (p : List ℕ) → enters p ≡ false → witnessFor t outcome p ≡ false
+unentered-is-none k p h = is-false _ (λ q. true≢false (sym (k .witnesses p q) ∙ h))
 
 -- What a walk that began with p and budget b has still to do: cur was visited last, at the front of order, v were visited.
-pub record Told (t : Table) (enters : List ℕ → Bool) (preds : List ℕ) (mem watched : ℕ) (p : List ℕ) (b : ℕ) (order goods : List ℕ)
+pub record Told (t : Table) (outcome enters : List ℕ → Bool) (preds : List ℕ) (mem watched : ℕ) (p : List ℕ) (b : ℕ) (order goods : List ℕ)
     (keep later lowest last v : ℕ) : Type 0 where
   pub ahead : Ahead preds mem enters (listOf t enters) (take (ones last) order) (take keep order) later lowest
   pub kept : (watched ≡ 0 → ⊥) → GoodsTo t goods order keep
-  pub same : searchFrom t enters p b 0 ≡ searchFrom t enters (take (ones last) order) (b - v) v
+  pub same : searchFrom t outcome enters p b 0 ≡ searchFrom t outcome enters (take (ones last) order) (b - v) v
 
 -- at first
-pub told-start : {t : Table} {facts : List (List ℕ)} {enters : List ℕ → Bool} {preds succs order goods : List ℕ}
+pub told-start : {t : Table} {facts : List (List ℕ)} {outcome enters : List ℕ → Bool} {preds succs order goods : List ℕ}
     {mem watched keep placed can later : ℕ} (tables : Prepared preds succs mem) (state : Holds preds mem order keep placed can)
     (c : (later ≡ can) ⊎ (later ≡ 0)) (b : ℕ) → Watching t facts preds mem watched enters →
     Begun t enters watched order goods keep can later →
-    Told t enters preds mem watched (take keep order) b order goods keep later (startFrom tables state c) placed 0
-told-start {t} {enters = enters} {preds} {order = order} {mem = mem} {keep = keep} {placed} {later = later} tables state c b w g = record {
+    Told t outcome enters preds mem watched (take keep order) b order goods keep later (startFrom tables state c) placed 0
+told-start {t} {outcome = outcome} {enters} {preds} {order = order} {mem = mem} {keep = keep} {placed} {later = later} tables state c b w g = record {
   ahead = subst
       (λ (n : ℕ). Ahead preds mem enters (listOf t enters) (take n order) (take keep order) later (startFrom tables state c))
       (state .counted)
       (ahead-start tables state (listing w) (ap (λ (f : List ℕ → Bool). f (take keep order)) (sym (reach-is w)) ∙ g .reached) (g .untried) c);
   kept = g .kept;
   same =
-      ap (λ (n : ℕ). searchFrom t enters (take n order) b 0) (state .counted)
-      ∙ ap (λ (n : ℕ). searchFrom t enters (take (ones placed) order) n 0) (sym (sub-zero b));
+      ap (λ (n : ℕ). searchFrom t outcome enters (take n order) b 0) (state .counted)
+      ∙ ap (λ (n : ℕ). searchFrom t outcome enters (take (ones placed) order) n 0) (sym (sub-zero b));
 }
 
 -- the same along another prefix and another list's front
@@ -109,10 +109,10 @@ ahead-as {preds} {mem} {enters} {l} {cur} {r = r} {later = later} {lowest = lowe
     (subst (λ (x : List ℕ). Ahead preds mem enters l cur x later lowest) d a)
 
 -- A turn of a walk.
-module _ {t : Table} {facts : List (List ℕ)} {enters : List ℕ → Bool} {preds succs order goods p : List ℕ}
+module _ {t : Table} {facts : List (List ℕ)} {outcome enters : List ℕ → Bool} {preds succs order goods p : List ℕ}
     {mem watched keep placed can later lowest last b v : ℕ} (w : Watching t facts preds mem watched enters)
     (at : Standing preds succs mem order keep placed can later lowest)
-    (told : Told t enters preds mem watched p b order goods keep later lowest last v) where
+    (told : Told t outcome enters preds mem watched p b order goods keep later lowest last v) where
   abbrev cur : List ℕ
   cur = take (ones last) order
 
@@ -123,12 +123,12 @@ module _ {t : Table} {facts : List (List ℕ)} {enters : List ℕ → Bool} {pre
   l = listOf t enters
 
   -- nothing is left to try, nor to go back over
-  pub told-none : later ≡ 0 → keep ≡ 0 → searchFrom t enters p b 0 ≡ noneLeft v
-  told-none z k = told .same ∙ step-none (witness t) l cur (b - v) v (ahead-end at (told .ahead) z k)
+  pub told-none : later ≡ 0 → keep ≡ 0 → searchFrom t outcome enters p b 0 ≡ noneLeft v
+  told-none z k = told .same ∙ step-none (witnessFor t outcome) l cur (b - v) v (ahead-end at (told .ahead) z k)
 
   -- the last entry is taken back
   pub told-back : {m e later′ : ℕ} → later ≡ 0 → keep ≡ suc m → e ≡ getD order m 0 →
-      Told t enters preds mem watched p b order goods m later′ (e + 1) last v
+      Told t outcome enters preds mem watched p b order goods m later′ (e + 1) last v
   told-back z some q = record {
     ahead = ahead-back at (told .ahead) z some q;
     kept = λ n k h. told .kept n k (omega arith);
@@ -157,8 +157,8 @@ module _ {t : Table} {facts : List (List ℕ)} {enters : List ℕ → Bool} {pre
         ∙ ap (λ (m : ℕ). bit m e) (sym (w .memory)) ∙ event preds mem placed e (sym (at .holds .current e) ∙ lowest-may at some low)))
 
     -- no more may be visited
-    pub told-spent : v ≡ b → searchFrom t enters p b 0 ≡ spent cur v
-    told-spent q = told .same ∙ step-spent (witness t) l cur (b - v) v next first (omega arith)
+    pub told-spent : v ≡ b → searchFrom t outcome enters p b 0 ≡ spent cur v
+    told-spent q = told .same ∙ step-spent (witnessFor t outcome) l cur (b - v) v next first (omega arith)
 
     -- what is told of the next prefix's last event: whether it is entered
     pub told-enters : (r : Bool) → EntersBy (bit watched e) facts placed (getD goods keep 0) e r → r ≡ enters next
@@ -172,25 +172,25 @@ module _ {t : Table} {facts : List (List ℕ)} {enters : List ℕ → Bool} {pre
       front = next-front at some low q power
 
       -- it is a witness
-      pub told-found : v < b → witness t next ≡ true → searchFrom t enters p b 0 ≡ found (take (ones last′) stored) (v + 1)
+      pub told-found : v < b → witnessFor t outcome next ≡ true → searchFrom t outcome enters p b 0 ≡ found (take (ones last′) stored) (v + 1)
       told-found h g =
-          told .same ∙ step-found (witness t) l cur (b - v) v next first (b - (v + 1)) (omega arith) g
+          told .same ∙ step-found (witnessFor t outcome) l cur (b - v) v next first (b - (v + 1)) (omega arith) g
           ∙ ap₂ found (sym front) (sym (add-one v))
 
       -- it isn't: the search goes on from there
-      onward : v < b → witness t next ≡ false →
-          searchFrom t enters p b 0 ≡ searchFrom t enters (take (ones last′) stored) (b - (v + 1)) (v + 1)
+      onward : v < b → witnessFor t outcome next ≡ false →
+          searchFrom t outcome enters p b 0 ≡ searchFrom t outcome enters (take (ones last′) stored) (b - (v + 1)) (v + 1)
       onward h g =
-          told .same ∙ step-on (witness t) l cur (b - v) v next first (b - (v + 1)) (omega arith) g
-          ∙ ap₂ (λ (x : List ℕ) (n : ℕ). searchFrom t enters x (b - (v + 1)) n) (sym front) (sym (add-one v))
+          told .same ∙ step-on (witnessFor t outcome) l cur (b - v) v next first (b - (v + 1)) (omega arith) g
+          ∙ ap₂ (λ (x : List ℕ) (n : ℕ). searchFrom t outcome enters x (b - (v + 1)) n) (sym front) (sym (add-one v))
 
       -- the masks of the good stay
       goods-stay : (watched ≡ 0 → ⊥) → GoodsTo t goods stored keep
       goods-stay n k h =
           told .kept n k h ∙ ap (λ (x : List ℕ). maskBy t (good t (finalValue t x))) (sym (take-set-le k order keep e h))
 
-      past-as : {later′ : ℕ} → v < b → witness t next ≡ false → ((y : ℕ) → reachable (cleanBy preds mem) enters (next ++ (y ∷ [])) ≡ false) →
-          Told t enters preds mem watched p b stored goods keep later′ (e + 1) last′ (v + 1)
+      past-as : {later′ : ℕ} → v < b → witnessFor t outcome next ≡ false → ((y : ℕ) → reachable (cleanBy preds mem) enters (next ++ (y ∷ [])) ≡ false) →
+          Told t outcome enters preds mem watched p b stored goods keep later′ (e + 1) last′ (v + 1)
       past-as h g none = record {
         ahead = ahead-as (sym front) (sym (take-set-le keep order keep e (omega arith))) (ahead-past at (told .ahead) some low none);
         kept = goods-stay;
@@ -198,34 +198,35 @@ module _ {t : Table} {facts : List (List ℕ)} {enters : List ℕ → Bool} {pre
       }
 
       -- it isn't entered, and is passed over
-      pub told-past : {later′ : ℕ} → v < b → enters next ≡ false →
-          Told t enters preds mem watched p b stored goods keep later′ (e + 1) last′ (v + 1)
-      told-past h g = past-as h (unentered-is-none w next g) (λ y. reachable-not enters (cleanBy preds mem) next y g)
+      pub told-past : {words : List ℕ} {later′ : ℕ} → Seeking t facts words outcome enters → v < b → enters next ≡ false →
+          Told t outcome enters preds mem watched p b stored goods keep later′ (e + 1) last′ (v + 1)
+      told-past k h g = past-as h (unentered-is-none k next g) (λ y. reachable-not enters (cleanBy preds mem) next y g)
 
       -- it is whole: an order
       pub told-order : last′ ≡ mem → isOrder t next ≡ true
       told-order h = whole-is-order w next next-is-clean (next-mask at some low q power ∙ h)
 
       -- and no witness, and is passed over
-      pub told-whole : {later′ : ℕ} → v < b → last′ ≡ mem → witness t next ≡ false →
-          Told t enters preds mem watched p b stored goods keep later′ (e + 1) last′ (v + 1)
+      pub told-whole : {later′ : ℕ} → v < b → last′ ≡ mem → witnessFor t outcome next ≡ false →
+          Told t outcome enters preds mem watched p b stored goods keep later′ (e + 1) last′ (v + 1)
       told-whole h m g =
           past-as h g
           (λ y. reachable-passes enters (cleanBy preds mem) (next ++ (y ∷ [])) (whole-shut at some low q power m y))
 
       -- what is_witness tells of it
-      pub told-witness : (r : Bool) → last′ ≡ mem → Judges facts (take (keep + 1) stored) witness r → r ≡ witness t next
-      told-witness r h j =
+      pub told-witness : {words : List ℕ} → Seeking t facts words outcome enters → (r : Bool) → last′ ≡ mem →
+          Witnesses facts words (take (keep + 1) stored) r → r ≡ witnessFor t outcome next
+      told-witness k r h j =
           let s = next-stored at some low in
-          subst (λ (x : List ℕ). r ≡ witness t x) s
-          (j t (w .known) (ap (isOrder t) s ∙ told-order h) (ap (clean t) s ∙ next-is-clean))
+          subst (λ (x : List ℕ). r ≡ witnessFor t outcome x) s
+          (j t outcome (w .known) (k .wanted) (ap (isOrder t) s ∙ told-order h) (ap (clean t) s ∙ next-is-clean))
 
       -- it is entered
       pub told-on : {goods′ : List ℕ} {later′ : ℕ} → v < b → (last′ ≡ mem → ⊥) → enters next ≡ true → keep + 1 < length goods →
           goods′ ≡ cond (eqb watched 0) goods (set goods (keep + 1) (goodBehind facts (getD goods keep 0) e)) →
-          Told t enters preds mem watched p b stored goods′ (keep + 1) later′ 0 last′ (v + 1)
+          Told t outcome enters preds mem watched p b stored goods′ (keep + 1) later′ 0 last′ (v + 1)
       told-on h n g room s = record {
         ahead = ahead-as (sym front) (sym (next-stored at some low)) (ahead-on at (told .ahead) some low g);
         kept = λ x. goods-more (w .known) counted order stored goods keep x (told .kept x) room s (next-stored at some low) (λ k i. take-set-le k order keep e i);
-        same = onward h (part-is-none w next next-is-clean (λ m. n (sym (next-mask at some low q power) ∙ m)));
+        same = onward h (part-is-none w outcome next next-is-clean (λ m. n (sym (next-mask at some low q power) ∙ m)));
       }

@@ -16,8 +16,8 @@ use Rattle.masks.specs.Bit.{bit}
 use Rattle.masks.proofs.WithinLaws.{bit-below}
 use Rattle.table.specs.declared.Table.{Table}
 use Rattle.table.specs.Events.{capacity}
-use Rattle.model.specs.Witness.{witness}
-use Rattle.order_test.specs.Testing.{Judges, Fitting}
+use Rattle.order_test.specs.Testing.{Fitting}
+use Rattle.condition_test.specs.Wanted.{Witnesses}
 use Rattle.successors.specs.CleanMasks.{slots, limit, cleanBy}
 use Rattle.successors.specs.Waiting.{Prepared}
 use Rattle.ready_events.specs.Current.{Current}
@@ -27,7 +27,7 @@ use Rattle.engine.proofs.StepLaws.{Standing, stand-start, startFrom, stand-room
 use Rattle.witness_walk.specs.declared.Ending.{Ending}
 use Rattle.witness_walk.specs.declared.Ending.the-variants.{Found, NoneLeft, Spent}
 use Rattle.witness_walk.specs.Ending.{answerOf}
-use Rattle.witness_walk.specs.Running.{Watching, EntersBy, goodBehind, Begun, searchFrom, AtMost}
+use Rattle.witness_walk.specs.Running.{Watching, Seeking, EntersBy, goodBehind, Begun, searchFrom, AtMost}
 use Rattle.witness_walk.proofs.RunLaws.{Told, told-start, told-none, told-back, told-enters, told-spent, told-found, told-past, told-whole, told-witness, told-on}
 
 -- the masks of the good stay as many
@@ -36,64 +36,64 @@ noted-long true goods k m = refl
 noted-long false goods k m = length-set goods k m
 
 -- the walk began with keep₀ entries, the masks can₀ and later₀ and budget b, and stands behind keep entries, with v visited
-pub record Going (facts : List (List ℕ)) (preds succs : List ℕ) (mem watched : ℕ) (order₀ goods₀ : List ℕ) (keep₀ can₀ later₀ b : ℕ)
+pub record Going (facts : List (List ℕ)) (words preds succs : List ℕ) (mem watched : ℕ) (order₀ goods₀ : List ℕ) (keep₀ can₀ later₀ b : ℕ)
     (order goods : List ℕ) (keep placed can later last v : ℕ) : Type 0 where
   pub lowest : ℕ
   pub stands : Standing preds succs mem order keep placed can later lowest
   pub long : length goods ≡ slots
   pub few : ones last ≤ ones mem
   pub spare : v ≤ b
-  pub told : (t : Table) (enters : List ℕ → Bool) → Watching t facts preds mem watched enters →
-      Begun t enters watched order₀ goods₀ keep₀ can₀ later₀ →
-      Told t enters preds mem watched (take keep₀ order₀) b order goods keep later lowest last v
+  pub told : (t : Table) (outcome enters : List ℕ → Bool) → Watching t facts preds mem watched enters →
+      Seeking t facts words outcome enters → Begun t enters watched order₀ goods₀ keep₀ can₀ later₀ →
+      Told t outcome enters preds mem watched (take keep₀ order₀) b order goods keep later lowest last v
 
 -- what a walk answers, of every such table; its prefix stands at the front of the order, and has at most the memory events
-abbrev pub Answers : List (List ℕ) → List ℕ → ℕ → ℕ → List ℕ → List ℕ → ℕ → ℕ → ℕ → ℕ → Ending → List ℕ → Type 0
-Answers facts preds mem watched order₀ goods₀ keep₀ can₀ later₀ b o order =
-    ((t : Table) (enters : List ℕ → Bool) → Watching t facts preds mem watched enters →
-    Begun t enters watched order₀ goods₀ keep₀ can₀ later₀ → answerOf o order ≡ searchFrom t enters (take keep₀ order₀) b 0)
+abbrev pub Answers : List (List ℕ) → (words preds : List ℕ) → ℕ → ℕ → List ℕ → List ℕ → ℕ → ℕ → ℕ → ℕ → Ending → List ℕ → Type 0
+Answers facts words preds mem watched order₀ goods₀ keep₀ can₀ later₀ b o order =
+    ((t : Table) (outcome enters : List ℕ → Bool) → Watching t facts preds mem watched enters → Seeking t facts words outcome enters →
+    Begun t enters watched order₀ goods₀ keep₀ can₀ later₀ → answerOf o order ≡ searchFrom t outcome enters (take keep₀ order₀) b 0)
     × ((length order ≡ slots) × AtMost (ones mem) o)
 
-pub going-start : {facts : List (List ℕ)} {preds succs order goods : List ℕ} {mem watched keep placed can later : ℕ} (b : ℕ) →
+pub going-start : {facts : List (List ℕ)} {words preds succs order goods : List ℕ} {mem watched keep placed can later : ℕ} (b : ℕ) →
     Prepared preds succs mem → Holds preds mem order keep placed can → (later ≡ can) ⊎ (later ≡ 0) → length goods ≡ slots →
-    Going facts preds succs mem watched order goods keep can later b order goods keep placed can later placed 0
+    Going facts words preds succs mem watched order goods keep can later b order goods keep placed can later placed 0
 going-start {preds = preds} {order = order} {mem = mem} {keep = keep} b tables state c long = record {
   lowest = startFrom tables state c;
   stands = stand-start tables state c;
   long = long;
   few = omega (arith, ap ones (state .mask), clean-ones preds mem (take keep order) (state .clean), clean-short preds mem (take keep order) (state .clean));
   spare = omega arith;
-  told = λ t enters w g. told-start tables state c b w g;
+  told = λ t outcome enters w k g. told-start tables state c b w g;
 }
 
-module _ {facts : List (List ℕ)} {preds succs order₀ goods₀ order goods : List ℕ} {mem watched keep₀ can₀ later₀ b keep placed can later last v : ℕ}
-    (g : Going facts preds succs mem watched order₀ goods₀ keep₀ can₀ later₀ b order goods keep placed can later last v) where
+module _ {facts : List (List ℕ)} {words preds succs order₀ goods₀ order goods : List ℕ} {mem watched keep₀ can₀ later₀ b keep placed can later last v : ℕ}
+    (g : Going facts words preds succs mem watched order₀ goods₀ keep₀ can₀ later₀ b order goods keep placed can later last v) where
   abbrev at : Standing preds succs mem order keep placed can later (g .lowest)
   at = g .stands
 
   -- how the walk answers here
   abbrev Answer : Ending → List ℕ → Type 0
-  Answer o order = Answers facts preds mem watched order₀ goods₀ keep₀ can₀ later₀ b o order
+  Answer o order = Answers facts words preds mem watched order₀ goods₀ keep₀ can₀ later₀ b o order
 
   pub going-none : later ≡ 0 → keep ≡ 0 → Answer (NoneLeft v) order
-  going-none z k = (λ t enters w s. sym (told-none w at (g .told t enters w s) z k), (at .holds .long, tt))
+  going-none z n = (λ t outcome enters w k s. sym (told-none w at (g .told t outcome enters w k s) z n), (at .holds .long, tt))
 
   pub going-back : {m e placed′ can′ later′ : ℕ} → later ≡ 0 → keep ≡ suc m → e ≡ getD order m 0 → placed′ ≡ bitXor placed (2 ^ e) →
       can′ ≡ bitOr (bitXor can (bitAnd can (getD succs e 0))) (2 ^ e) → later′ ≡ can′ / 2 ^ (e + 1) * 2 ^ (e + 1) →
-      Going facts preds succs mem watched order₀ goods₀ keep₀ can₀ later₀ b order goods m placed′ can′ later′ last v
+      Going facts words preds succs mem watched order₀ goods₀ keep₀ can₀ later₀ b order goods m placed′ can′ later′ last v
   going-back {e = e} z k q p c l = record {
     lowest = e + 1;
     stands = stand-back at k q p c l;
     long = g .long;
     few = g .few;
     spare = g .spare;
-    told = λ t enters w s. told-back w at (g .told t enters w s) z k q;
+    told = λ t outcome enters w f s. told-back w at (g .told t outcome enters w f s) z k q;
   }
 
   -- e is the lowest event that is left to try.
   module _ {e : ℕ} (some : later ≡ 0 → ⊥) (low : e ≡ trailingZeros slots later) where
     pub going-spent : (o : Ending) → o ≡ Spent (ones last) v → v ≡ b → Answer o order
-    going-spent o i q = subst (λ (x : Ending). Answer x order) (sym i) (λ t enters w s. sym (told-spent w at (g .told t enters w s) some low q), (at .holds .long, g .few))
+    going-spent o i q = subst (λ (x : Ending). Answer x order) (sym i) (λ t outcome enters w k s. sym (told-spent w at (g .told t outcome enters w k s) some low q), (at .holds .long, g .few))
 
     -- Within the budget, it is stored and counted, and the mask of its prefix made.
     module _ (left : v ≡ b → ⊥) {last′ c : ℕ} (q : last′ ≡ bitOr placed c) (power : c ≡ 2 ^ e) where
@@ -115,22 +115,22 @@ module _ {facts : List (List ℕ)} {preds succs order₀ goods₀ order goods : 
       }
 
       -- it is a witness
-      pub going-found : (r : Bool) → last′ ≡ mem → Judges facts (take (keep + 1) stored) witness r → r ≡ true →
+      pub going-found : (r : Bool) → last′ ≡ mem → Witnesses facts words (take (keep + 1) stored) r → r ≡ true →
           (o : Ending) → o ≡ Found (ones last′) (v + 1) → Answer o stored
       going-found r m j h o i = subst (λ (x : Ending). Answer x stored) (sym i) (
-        λ t enters w s. sym (told-found w at (g .told t enters w s) some low q power below
-            (sym (told-witness w at (g .told t enters w s) some low q power r m j) ∙ h)),
+        λ t outcome enters w k s. sym (told-found w at (g .told t outcome enters w k s) some low q power below
+            (sym (told-witness w at (g .told t outcome enters w k s) some low q power k r m j) ∙ h)),
         (length-set order keep e ∙ at .holds .long, next-few at some low q power),
       )
 
       -- it is passed over: the events past it are left to try
       module _ {later′ : ℕ} (next : later′ ≡ bitXor later c) where
         abbrev Past : Type 0
-        Past = Going facts preds succs mem watched order₀ goods₀ keep₀ can₀ later₀ b stored goods keep placed can later′ last′ (v + 1)
+        Past = Going facts words preds succs mem watched order₀ goods₀ keep₀ can₀ later₀ b stored goods keep placed can later′ last′ (v + 1)
 
-        past : ((t : Table) (enters : List ℕ → Bool) → Watching t facts preds mem watched enters →
-            Begun t enters watched order₀ goods₀ keep₀ can₀ later₀ →
-            Told t enters preds mem watched (take keep₀ order₀) b stored goods keep later′ (e + 1) last′ (v + 1)) → Past
+        past : ((t : Table) (outcome enters : List ℕ → Bool) → Watching t facts preds mem watched enters →
+            Seeking t facts words outcome enters → Begun t enters watched order₀ goods₀ keep₀ can₀ later₀ →
+            Told t outcome enters preds mem watched (take keep₀ order₀) b stored goods keep later′ (e + 1) last′ (v + 1)) → Past
         past f = record {
           lowest = e + 1;
           stands = stand-past at some low (next ∙ ap (bitXor later) power);
@@ -142,28 +142,28 @@ module _ {facts : List (List ℕ)} {preds succs order₀ goods₀ order goods : 
 
         -- since it isn't entered
         pub going-past : (r : Bool) → EntersBy (bit watched e) facts placed (getD goods keep 0) e r → r ≡ false → Past
-        going-past r h n = past (λ t enters w s.
-            told-past w at (g .told t enters w s) some low q power below
-            (sym (told-enters w at (g .told t enters w s) some low r h) ∙ n))
+        going-past r h n = past (λ t outcome enters w k s.
+            told-past w at (g .told t outcome enters w k s) some low q power k below
+            (sym (told-enters w at (g .told t outcome enters w k s) some low r h) ∙ n))
 
         -- since it is whole, and no witness
-        pub going-whole : (r : Bool) → last′ ≡ mem → Judges facts (take (keep + 1) stored) witness r → r ≡ false → Past
-        going-whole r m j n = past (λ t enters w s.
-            told-whole w at (g .told t enters w s) some low q power below m
-            (sym (told-witness w at (g .told t enters w s) some low q power r m j) ∙ n))
+        pub going-whole : (r : Bool) → last′ ≡ mem → Witnesses facts words (take (keep + 1) stored) r → r ≡ false → Past
+        going-whole r m j n = past (λ t outcome enters w k s.
+            told-whole w at (g .told t outcome enters w k s) some low q power below m
+            (sym (told-witness w at (g .told t outcome enters w k s) some low q power k r m j) ∙ n))
 
       -- it is entered
       pub going-on : {goods′ : List ℕ} {placed′ can′ : ℕ} (r : Bool) → EntersBy (bit watched e) facts placed (getD goods keep 0) e r →
           r ≡ true → (last′ ≡ mem → ⊥) →
           goods′ ≡ cond (eqb watched 0) goods (set goods (keep + 1) (goodBehind facts (getD goods keep 0) e)) →
           placed′ ≡ bitOr placed (2 ^ e) → Current preds mem placed′ can′ →
-          Going facts preds succs mem watched order₀ goods₀ keep₀ can₀ later₀ b stored goods′ (keep + 1) placed′ can′ can′ last′ (v + 1)
+          Going facts words preds succs mem watched order₀ goods₀ keep₀ can₀ later₀ b stored goods′ (keep + 1) placed′ can′ can′ last′ (v + 1)
       going-on {goods′} r h n m s p u = record {
         lowest = 0;
         stands = stand-on at some low p u;
         long = ap length s ∙ noted-long (eqb watched 0) goods (keep + 1) _ ∙ g .long;
         few = next-few at some low q power;
         spare = omega (arith, below);
-        told = λ t enters w i. told-on w at (g .told t enters w i) some low q power below m
-            (sym (told-enters w at (g .told t enters w i) some low r h) ∙ n) (omega (arith, g .long, next-room at some low q power)) s;
+        told = λ t outcome enters w k i. told-on w at (g .told t outcome enters w k i) some low q power below m
+            (sym (told-enters w at (g .told t outcome enters w k i) some low r h) ∙ n) (omega (arith, g .long, next-room at some low q power)) s;
       }

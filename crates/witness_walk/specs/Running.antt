@@ -14,12 +14,13 @@ use Rattle.prefixes.specs.Listed.{after}
 use Rattle.prefixes.specs.Answer.{Answer}
 use Rattle.prefixes.specs.Statements.{seek}
 use Rattle.model.specs.Returns.{finalValue}
-use Rattle.model.specs.Witness.{witness}
+use Rattle.model.specs.Witness.{witnessFor}
 use Rattle.model.specs.Prefixes.{clean, prefixesBy}
 use Rattle.placing.specs.Guards.{readsStated}
 use Rattle.order_facts.specs.Facts.{maskBy, good}
 use Rattle.fact_rows.specs.FactRows.{mask, Facts, hereRow, rightRow}
 use Rattle.order_test.specs.Testing.{TellsGood}
+use Rattle.condition_test.specs.Wanted.{Wants}
 use Rattle.engine.specs.Entered.{reachable}
 use Rattle.precedence.specs.Precedence.{predecessorMasks}
 use Rattle.witness_walk.specs.declared.Ending.{Ending}
@@ -30,12 +31,11 @@ use Rattle.witness_walk.specs.declared.Followed.the-variants.{Reached, C
 use Rattle.witness_walk.specs.Ending.{answerOf}
 
 -- What a walk enters, by the mask of the readers that it watches: a prefix with one more event, unless that is a watched reader
--- that doesn't read its stated value. So no witness is left out.
+-- that doesn't read its stated value.
 pub record Enters (t : Table) (watched : ℕ) (enters : List ℕ → Bool) : Type 0 where
   pub none : enters [] ≡ true
   pub more : (p : List ℕ) (e : ℕ) → clean t (p ++ (e ∷ [])) ≡ true → enters p ≡ true →
       enters (p ++ (e ∷ [])) ≡ (not (bit watched e) || readsStated t (λ a. has a p) (finalValue t p) e)
-  pub witnesses : (gmo : List ℕ) → witness t gmo ≡ true → enters gmo ≡ true
 
 -- the masks and facts are those of the table
 pub record Watching (t : Table) (facts : List (List ℕ)) (preds : List ℕ) (mem watched : ℕ) (enters : List ℕ → Bool) : Type 0 where
@@ -43,6 +43,11 @@ pub record Watching (t : Table) (facts : List (List ℕ)) (preds : List ℕ) (me
   pub predecessors : preds ≡ predecessorMasks t
   pub memory : mem ≡ memoryMask t
   pub entering : Enters t watched enters
+
+-- what a walk looks for is what the words say, and it leaves no witness of that out
+pub record Seeking (t : Table) (facts : List (List ℕ)) (words : List ℕ) (outcome enters : List ℕ → Bool) : Type 0 where
+  pub wanted : Wants t facts words outcome
+  pub witnesses : (gmo : List ℕ) → witnessFor t outcome gmo ≡ true → enters gmo ≡ true
 
 -- whether e, watched or not, is entered: r tells it by the mask of the good
 abbrev pub EntersBy : Bool → List (List ℕ) → ℕ → ℕ → ℕ → Bool → Type 0
@@ -68,8 +73,8 @@ abbrev pub listOf : Table → (List ℕ → Bool) → List (List ℕ)
 listOf t enters = prefixesBy t (reachable (clean t) enters)
 
 -- what a search for a witness from prefix p with budget b answers, if v were visited already
-abbrev pub searchFrom : Table → (List ℕ → Bool) → List ℕ → ℕ → ℕ → Answer
-searchFrom t enters p b v = seek (witness t) (after p (listOf t enters)) p b v
+abbrev pub searchFrom : Table → (outcome enters : List ℕ → Bool) → List ℕ → ℕ → ℕ → Answer
+searchFrom t outcome enters p b v = seek (witnessFor t outcome) (after p (listOf t enters)) p b v
 
 -- the prefix of an ending has at most n entries
 abbrev pub AtMost : ℕ → Ending → Type 0
@@ -78,11 +83,11 @@ AtMost n (NoneLeft visited) = Unit {0}
 AtMost n (Spent len visited) = len ≤ n
 
 -- how the search of every table that was handed in ended, its prefix at the front of the order
-abbrev pub Runs : List (List ℕ) → List ℕ → ℕ → ℕ → List ℕ → List ℕ → Path → ℕ → Ending → List ℕ → Type 0
-Runs facts preds mem watched order goods from b o after =
-    (t : Table) (enters : List ℕ → Bool) → Watching t facts preds mem watched enters →
+abbrev pub Runs : List (List ℕ) → (words preds : List ℕ) → ℕ → ℕ → List ℕ → List ℕ → Path → ℕ → Ending → List ℕ → Type 0
+Runs facts words preds mem watched order goods from b o after =
+    (t : Table) (outcome enters : List ℕ → Bool) → Watching t facts preds mem watched enters → Seeking t facts words outcome enters →
     Begun t enters watched order goods (from .keep) (from .masks .can) (from .later) →
-    answerOf o after ≡ searchFrom t enters (take (from .keep) order) b 0
+    answerOf o after ≡ searchFrom t outcome enters (take (from .keep) order) b 0
 
 -- how a start of len entries, with can the mask of the events that may come behind it, was followed
 abbrev pub FollowedAs : Table → (List ℕ → Bool) → ℕ → List ℕ → List ℕ → ℕ → ℕ → Followed → Type 0

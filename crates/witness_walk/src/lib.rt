@@ -1,4 +1,4 @@
-// The walk through the prefixes of a table, ascending, with a counted budget; it stops at the first witness.
+// The walk through the prefixes of a table, ascending, with a counted budget; it stops at the first witness of what is looked for.
 use fact_rows::GOOD;
 use fact_rows::ROWS;
 use fact_rows::SETS;
@@ -130,6 +130,7 @@ pub fn follow(
 // order, is passed over: what goes on with it isn't visited.
 pub fn walk(
     facts: &[[u32; CAPACITY]; ROWS],
+    words: &[u32],
     pred: &[u32; SLOTS],
     succ: &[u32; SLOTS],
     mem: u32,
@@ -141,7 +142,7 @@ pub fn walk(
 ) -> Ending
     requires { ⌜ Prepared (now pred) (now succ) mem × Holds (now pred) mem (now order) (from .keep) (from .masks .placed) (from .masks .can) ⌝ }
     requires { ⌜ ((from .later ≡ from .masks .can) ⊎ (from .later ≡ 0)) × (length (now goods) ≡ slots) ⌝ }
-    ensures { λ r. ⌜ Runs (now (facts .entry)) (now (pred .entry)) mem watched (now (order .entry)) (now (goods .entry)) from budget r (now (order .exit)) ⌝ }
+    ensures { λ r. ⌜ Runs (now (facts .entry)) (now (words .entry)) (now (pred .entry)) mem watched (now (order .entry)) (now (goods .entry)) from budget r (now (order .exit)) ⌝ }
     ensures { λ r. ⌜ (length (now (order .exit)) ≡ slots) × AtMost (ones mem) r ⌝ }
 {
     let mut keep = from.keep;
@@ -173,7 +174,7 @@ pub fn walk(
             continue;
         }
         if last == mem {
-            if order_test::is_witness(facts, &*order, keep + 1) {
+            if condition_test::is_witness(facts, words, &*order, keep + 1) {
                 return found(last, visited);
             }
             continue;

@@ -5,16 +5,17 @@ ghost use mathlib.Core.Path.{_≡_};
 ghost use Rattle.refusals.specs.Refusals.{refusalOf};
 ghost use Rattle.words.specs.Numbers.{numberOf};
 
-// What refusal n means: row n of this table, whose rows from 1 on are those of docs/refusals.txt.
+// What refusal n means: row n of this table, whose rows from 1 on are those of docs/refusals.txt. No refusal has the number of an
+// empty row.
 pub fn sentence(line: Line, n: u8) -> Line {
     let table = b"
-the test is shorter than a block of 512 bytes, or isn't as long as those of its edition: 512 bytes in edition 1, 1,536 in edition 2
+the test is shorter than a block of 512 bytes, or isn't as long as those of its edition: 512 bytes in edition 1, 1,536 in edition 2; or the text is longer than 2,048 bytes
 the check in bytes 508 to 511 of a block isn't the weighted sum of the bytes before it
 the test doesn't begin with the marker RVT1 (52 56 54 31 hex)
 the edition in byte 4 is neither 1 nor 2
-the number of harts (1 to 4), locations (1 to 8) or events (1 to 16, in edition 2 to 30) is out of range, or a final value is stated of a location that isn't in the test
+the number of harts (1 to 4), locations (1 to 8) or events (1 to 16, in edition 2 and in a text to 30) is out of range, or a final value is stated of a location that isn't in the test
 a byte that must be zero isn't: an unused byte, an initial value of a location that isn't in the test, a final value that isn't stated, or a record past the events
-the record's kind, hart, location, flags or operation are out of range, or it has what its kind can't have: a value read on an event that doesn't read, a value written on one that doesn't write, a location or a mask on a fence, flags on a fence.tso, an operation on an event that isn't an AMO; or it has an operand without an operation, or a value written that isn't what the operation makes of the value read
+the record's kind, hart, location, flags or operation are out of range, or it has what its kind can't have: a value read on an event that doesn't read, a value written on one that doesn't write, a location or a mask on a fence, flags on a fence.tso, an operation on an event that isn't an AMO; or it has an operand without an operation, or a value written that isn't what the operation makes of the value read; or, in a text, it states a value read, or a value written by an AMO with an operation
 the record's annotations don't go together: both acquires or both releases at once, a release without an acquire on a load or an LR, or an acquire without a release on a plain store or an SC
 a dependency mask of the record is wrong: it names an event that isn't earlier on the same hart, or a plain store, or a fence; or it is a data mask on an event that doesn't write, or a control dependency that some later memory event of the hart lacks
 the SC isn't paired: the nearest earlier LR or SC on its hart isn't an LR to the same location
@@ -26,6 +27,11 @@ the search can't start there: the start isn't a clean prefix, a list of differen
 the answer buffer is too short: a search needs a byte for each memory event, and a returned list a byte for each event
 the allowance is above 1,000,000,000
 the suite has no block of that number
+no legal text has this byte in this place, or the text ends too soon
+a `not` or a bracket begins a ninth level here, and a condition has at most eight
+
+
+the condition names an event that doesn't read, or a location that isn't in the test
 ";
     line.text(console::row(table, n))
 }
@@ -57,6 +63,11 @@ pub fn refused(line: Line, r: Refusal) -> Line {
         Refusal::Line(n) => line.item(b"refused ", n),
         Refusal::Record(n, k) => line.item(b"refused ", n).item(b", record ", k.0),
     }
+}
+
+// The number of a text's refusal, and the place of its byte.
+pub fn refused_at(line: Line, n: u8, place: usize) -> Line {
+    line.item(b"refused ", n).text(b", place ").number(place as u64)
 }
 
 // The number of a refusal's line, 0 for none.

@@ -16,7 +16,7 @@ use Rattle.table.specs.declared.Table.{Table}
 use Rattle.table.specs.Events.{capacity, noEvent, event, hart, kind, po}
 use Rattle.table.proofs.SameFields.{event-same}
 use Rattle.refusals.specs.Lines.{accepted, firstLine}
-use Rattle.refusals.specs.TableLines.{blank, line6, initialNotZero, finalNotZero, pastNotBlank, line9, names, namesWrongly, dataOfNonWriter, lacksControl, tableLines}
+use Rattle.refusals.specs.TableLines.{blank, line6, initialNotZero, finalNotZero, pastNotBlank, line7, line9, names, namesWrongly, dataOfNonWriter, lacksControl, tableLines}
 use Rattle.refusals.proofs.TablePassed.{TablePassed, table-passed}
 use Rattle.writer.specs.Fits.{EventFits, TableFits}
 
@@ -109,7 +109,7 @@ pub good : (t : Table) (extra : Bool) → TableFits t → firstLine (t .count) (
 good t extra f h =
     record { masks = λ k l. small k l (ltb k (t .count)) refl; past = λ k l m. past-blank t k (passed .unused) (omega (arith, passed .counts .events)) m }
   where
-    passed : TablePassed (mostEvents one) extra t
+    passed : TablePassed (line7 t) (mostEvents one) extra t
     passed = table-passed (mostEvents one) extra t h
 
     small : (k : ℕ) → k < mostEvents one → (b : Bool) → ltb k (t .count) ≡ b → MasksSmall (event t k)

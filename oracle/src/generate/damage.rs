@@ -1,6 +1,7 @@
-//! Tests of tables, damaged in one place.
+//! Tests of tables, and texts, damaged in one place.
 
 use super::prng::Prng;
+use super::text_cases::BYTES;
 use crate::encode::{encode_in, seal};
 use crate::layout::*;
 use crate::table::{Kind, Table};
@@ -65,4 +66,20 @@ pub fn operation_byte(edition: Edition, prng: &mut Prng, table: &Table) -> usize
         Edition::Two => two::field::READ..=two::field::OPERAND,
     };
     edition.record(event).start + fields.start() + prng.below(fields.count())
+}
+
+/// A text with a byte changed, left out or put in, with two bytes swapped, or cut.
+pub fn damaged_text(prng: &mut Prng, text: &[u8]) -> Vec<u8> {
+    let mut damaged = text.to_vec();
+    let at = prng.below(text.len());
+    let byte = if prng.one_in(8) { prng.bits() as u8 } else { *prng.pick(BYTES) };
+    match prng.below(8) {
+        0 => damaged.truncate(at),
+        1 => drop(damaged.remove(at)),
+        2 | 3 => damaged.insert(prng.below(text.len() + 1), byte),
+        4 => damaged.swap(at, prng.below(text.len())),
+        5 if at > 0 => damaged.swap(at - 1, at),
+        _ => damaged[at] = byte,
+    }
+    damaged
 }

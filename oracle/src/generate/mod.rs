@@ -1,9 +1,12 @@
 //! Deterministic generators: of the stored streams, and of what they are made of.
 
+pub mod amo_texts;
 pub mod breaches;
+pub mod calls;
 pub mod candidates;
 pub mod cases;
 pub mod chains;
+pub mod corner_texts;
 pub mod damage;
 pub mod decided;
 pub mod edition_two;
@@ -14,6 +17,8 @@ pub mod prng;
 pub mod random;
 pub mod readings;
 pub mod suites;
+pub mod text_calls;
+pub mod text_cases;
 pub mod texts;
 pub mod walks;
 pub mod writes;

@@ -1,5 +1,5 @@
-use Rattle.capi.proofs.FitLaws.{given-fits, given-word, clean-cleanly}
-use Rattle.model.specs.Prefixes.{clean}
+use Rattle.capi.proofs.FitLaws.{given-fits, given-word, block-bounded}
+use Rattle.bench.specs.Search.{ofBlock}
 use mathlib.Core.Path.{_∙_}
 use borrow.Author.Needs.{needs}
 use Rattle.capi.proofs.ct_search.Statement.{statement}
@@ -9,7 +9,7 @@ search-requires : tie.Need-search-requires
 search-requires c κs = search needs
 
 reply-word-requires : tie.Need-reply-word-requires
-reply-word-requires c κs = given-fits clean clean-cleanly _ _ _ _ _ (c .before .before .search .result) (c .before .before .search .ensures)
+reply-word-requires c κs = given-fits (ofBlock _) (block-bounded _) _ _ _ _ (c .before .before .search .result) (c .before .before .search .ensures)
 
 same-length : tie.Need-same-length
 same-length c = search needs
@@ -17,7 +17,7 @@ same-length c = search needs
 returns : tie.Need-returns
 returns c =
     let s = c .before .before .before .search in
-    (c .reply-word .ensures ∙ given-word clean clean-cleanly _ _ _ _ _ (s .result) (s .ensures), s .ensures .1 .0)
+    (c .reply-word .ensures ∙ given-word (ofBlock _) (block-bounded _) _ _ _ _ (s .result) (s .ensures), s .ensures .1 .0)
 
 pub ct-search-spec : {M : Type 1} → statement M
 ct-search-spec = tie.close (tie.spec search-requires reply-word-requires same-length returns)

@@ -1,6 +1,5 @@
-use Rattle.capi.proofs.FitLaws.{given-fits, given-word}
-use Rattle.model.specs.Settled.{unpruned}
-use Rattle.pruning.proofs.UnprunedLaws.{unpruned-clean}
+use Rattle.capi.proofs.FitLaws.{given-fits, given-word, pruned-bounded}
+use Rattle.bench.specs.Search.{ofBlockPruned}
 use mathlib.Core.Path.{_∙_}
 use borrow.Author.Needs.{needs}
 use Rattle.capi.proofs.ct_search_pruned.Statement.{statement}
@@ -10,7 +9,7 @@ search-pruned-requires : tie.Need-search-pruned-requires
 search-pruned-requires c κs = search needs
 
 reply-word-requires : tie.Need-reply-word-requires
-reply-word-requires c κs = given-fits unpruned unpruned-clean _ _ _ _ _ (c .before .before .search-pruned .result) (c .before .before .search-pruned .ensures)
+reply-word-requires c κs = given-fits (ofBlockPruned _) (pruned-bounded _) _ _ _ _ (c .before .before .search-pruned .result) (c .before .before .search-pruned .ensures)
 
 same-length : tie.Need-same-length
 same-length c = search needs
@@ -18,7 +17,7 @@ same-length c = search needs
 returns : tie.Need-returns
 returns c =
     let s = c .before .before .before .search-pruned in
-    (c .reply-word .ensures ∙ given-word unpruned unpruned-clean _ _ _ _ _ (s .result) (s .ensures), s .ensures .1 .0)
+    (c .reply-word .ensures ∙ given-word (ofBlockPruned _) (pruned-bounded _) _ _ _ _ (s .result) (s .ensures), s .ensures .1 .0)
 
 pub ct-search-pruned-spec : {M : Type 1} → statement M
 ct-search-pruned-spec = tie.close (tie.spec search-pruned-requires reply-word-requires same-length returns)

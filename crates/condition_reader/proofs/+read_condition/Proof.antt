@@ -1,7 +1,7 @@
 use mathlib.Core.Path.{_≡_, sym, _∙_}
 use mathlib.Core.List.{[]}
 use native.Mathlib.Omega.{arith}
-use Rattle.condition_reader.proofs.ConditionLaws.{inside, free-not, free-bracket, other-goes, returns-goes, ends-goes, deep-not, deep-bracket, not-goes, bracket-goes}
+use Rattle.condition_reader.proofs.ConditionLaws.{inside, free-not, free-joint, other-goes, returns-goes, ends-goes, deep-not, deep-bracket, spans-read, not-goes, bracket-goes}
 use borrow.Author.Needs.{needs}
 use Prim.Native.Nat.{ℕ, _<_}
 use borrow.Fn.Kinds.{In}
@@ -12,6 +12,7 @@ use Rattle.condition_reader.proofs.+read_condition.Lts-read_condition a
 use Rattle.condition_reader.proofs.begins.Reads as begins-reads
 use Rattle.condition_reader.proofs.halt.Reads as halt-reads
 use Rattle.condition_reader.proofs.joint_word.Reads as joint-word-reads
+use Rattle.condition_reader.proofs.mark.Reads as mark-reads
 use Rattle.condition_reader.proofs.push.Reads as push-reads
 use Rattle.condition_reader.proofs.put_atom.Reads as put-atom-reads
 use Rattle.condition_reader.proofs.read_joint.Reads as read-joint-reads
@@ -57,6 +58,8 @@ claims t = (
   read-joint-reads.Learnt,
   joint-word-reads.Asked,
   joint-word-reads.Learnt,
+  mark-reads.Asked,
+  mark-reads.Learnt,
 )
 
 read-condition-put-atom-requires : (t : ℕ) → read-condition-lts.Need-put-atom-requires (claims t)
@@ -124,35 +127,43 @@ read-condition-read-condition-requires-2 t c κs =
 read-condition-read-condition-requires-3 :
     (t : ℕ) → read-condition-lts.Need-read-condition-requires-3 (claims t) (read-condition-at t) read-condition.Post
 read-condition-read-condition-requires-3 t c κs =
-    let b4 = c .before .before .before .before in
-    let b14 = b4 .before .before .before .before .before .before .before .before .before .before in
-    let r = b14 .pre .1 in (
+    let b3 = c .before .before .before in
+    let b9 = b3 .before .before .before .before .before .before in
+    let b19 = b9 .before .before .before .before .before .before .before .before .before .before in
+    let r = b19 .pre .1 in (
       omega arith,
       record {
         short = r .short;
-        long = b4 .read-condition2 .kept .1 .1 .1 .0 ∙ r .long;
-        fed = (c .before .read-joint .ensures []) .fed;
+        long = b3 .push2 .kept .1 .0 ∙ b9 .read-condition2 .kept .1 .1 .1 .0 ∙ r .long;
+        fed = b3 .push2 .ensures .fed;
       },
     )
 
 read-condition-push-requires-2 : (t : ℕ) → read-condition-lts.Need-push-requires-2 (claims t)
     (read-condition-at t) read-condition.Post
 read-condition-push-requires-2 t c κs =
-    let b6 = c .before .before .before .before .before .before in
-    let b8 = b6 .before .before in
-    let b11 = b8 .before .before .before in
-    let b13 = b11 .before .before in
-    let b21 = b13 .before .before .before .before .before .before .before .before in
-    let r = b21 .pre .1 in
-    let u = c .before .before .skip3 .ensures [] in (
-      record {
-        short = r .short;
-        long = b6 .read-condition3 .kept .1 .1 .1 .0 ∙ b11 .read-condition2 .kept .1 .1 .1 .0 ∙ r .long;
-        fed = u .fed;
-      },
-      free-bracket _ _ _ _ _ _ _ _ _ _ _ _ _ _ _ _ _ _ r (b13 .skip2 .ensures _)
-          (b11 .read-condition2 .ensures) (b8 .read-joint .ensures []) (b6 .read-condition3 .ensures) u,
+    let b2 = c .before .before in
+    let b5 = b2 .before .before .before in
+    let b7 = b5 .before .before in
+    let b15 = b7 .before .before .before .before .before .before .before .before in
+    let r = b15 .pre .1 in
+    let d = b2 .read-joint .ensures [] in (
+      record { short = r .short; long = b5 .read-condition2 .kept .1 .1 .1 .0 ∙ r .long; fed = d .fed },
+      free-joint _ _ _ _ _ _ _ _ _ _ _ _ r (b7 .skip2 .ensures _) (b5 .read-condition2 .ensures) d,
     )
+
+read-condition-mark-requires : (t : ℕ) → read-condition-lts.Need-mark-requires (claims t)
+    (read-condition-at t) read-condition.Post
+read-condition-mark-requires t c κs =
+    let b5 = c .before .before .before .before .before in
+    let b9 = b5 .before .before .before .before in
+    let b12 = b9 .before .before .before in
+    let b15 = b12 .before .before .before in
+    let b25 = b15 .before .before .before .before .before .before .before .before .before .before in
+    let r = b25 .pre .1 in
+    let l = b15 .read-condition2 .kept .1 .1 .1 .0 ∙ r .long in
+    spans-read _ _ _ _ (r .short) l (b5 .read-condition3 .kept .1 .1 .1 .0 ∙ b9 .push2 .kept .1 .0 ∙ l) _ _ _ _ _ _ _ _
+    (b12 .read-joint .ensures _) (b9 .push2 .ensures) (b5 .read-condition3 .ensures) (c .before .skip3 .ensures _)
 
 read-condition-returns-3 : (t : ℕ) → read-condition-lts.Need-returns-3 (claims t) (read-condition-at t) read-condition.Post
 read-condition-returns-3 t c =
@@ -183,18 +194,22 @@ read-condition-returns-6 t c =
 
 read-condition-returns-7 : (t : ℕ) → read-condition-lts.Need-returns-7 (claims t) (read-condition-at t) read-condition.Post
 read-condition-returns-7 t c =
-    let b3 = c .before .before .before in
-    let b5 = b3 .before .before in
-    let b9 = b5 .before .before .before .before in
-    let b11 = b9 .before .before in
-    let b14 = b11 .before .before .before in
-    let b16 = b14 .before .before in
-    let b18 = b16 .before .before in
-    let b19 = b18 .before in
-    let b21 = b19 .before .before in
-    bracket-goes _ _ _ _ _ _ _ _ _ _ _ _ _ _ _ (b3 .joint-word .ensures) (b18 .if2 .left)
-    (sym (b19 .enum-told5 .given .1) ∙ b21 .begins .ensures) (b16 .skip2 .ensures _) (b14 .read-condition2 .ensures)
-    (b11 .read-joint .ensures _) (b9 .read-condition3 .ensures) (b5 .skip3 .ensures _) (c .before .before .push2 .ensures)
+    let b4 = c .before .before .before .before in
+    let b8 = b4 .before .before .before .before in
+    let b12 = b8 .before .before .before .before in
+    let b15 = b12 .before .before .before in
+    let b18 = b15 .before .before .before in
+    let b20 = b18 .before .before in
+    let b22 = b20 .before .before in
+    let b23 = b22 .before in
+    let b25 = b23 .before .before in
+    let r = b25 .before .before .before .pre .1 in
+    let l = b18 .read-condition2 .kept .1 .1 .1 .0 ∙ r .long in
+    bracket-goes _ _ _ _ _ _ _ _ _ _ _ _ _ _ _ _ (b22 .if2 .left)
+    (sym (b23 .enum-told5 .given .1) ∙ b25 .begins .ensures) (r .short) l
+    (b8 .read-condition3 .kept .1 .1 .1 .0 ∙ b12 .push2 .kept .1 .0 ∙ l) (b20 .skip2 .ensures _)
+    (b18 .read-condition2 .ensures) (b15 .read-joint .ensures _) (b12 .push2 .ensures) (b8 .read-condition3 .ensures)
+    (b4 .skip3 .ensures _) (c .before .before .mark .ensures)
 
 pub +read-condition-spec : {M : Type 1} → statement M
 +read-condition-spec = close μ-read-condition λ t. read-condition-lts.spec (claims t) (read-condition-at t)
@@ -222,12 +237,13 @@ pub +read-condition-spec : {M : Type 1} → statement M
     (λ c. search needs)
     (read-condition-read-condition-requires-2 t)
     (λ c κs. search needs)
+    (λ c κs. search needs)
+    (read-condition-push-requires-2 t)
     (λ c. search needs)
     (read-condition-read-condition-requires-3 t)
     (λ c. search needs)
     (λ c κs. search needs)
-    (λ c κs. search needs)
-    (read-condition-push-requires-2 t)
+    (read-condition-mark-requires t)
     (read-condition-returns-3 t)
     (λ c. search needs)
     (read-condition-returns-4 t)

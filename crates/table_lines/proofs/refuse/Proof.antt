@@ -3,7 +3,7 @@ use mathlib.Core.Bool.{false}
 use native.Mathlib.Omega.{arith}
 use Rattle.refusals.proofs.InRange.{in-range}
 use Rattle.refusals.proofs.LineLaws.{whole-here, whole-next}
-use Rattle.refusals.specs.TableLines.{tableLines, line5, line6}
+use Rattle.refusals.specs.TableLines.{recordLines, tableLinesBy, tableLines, line5, line6}
 use borrow.Author.Needs.{needs}
 use Rattle.table_lines.proofs.refuse.Statement.{statement}
 use Rattle.table_lines.proofs.refuse.Tie as tie
@@ -12,7 +12,7 @@ line5-requires : tie.Need-line5-requires
 line5-requires c κs = search needs
 
 returns : tie.Need-returns
-unfolding tableLines line5
+unfolding tableLines tableLinesBy line5
 returns c = whole-here _ _ _ _ (sym (c .before .line5 .ensures) ∙ c .if1 .taken)
 
 initial-not-zero-requires : tie.Need-initial-not-zero-requires
@@ -30,7 +30,7 @@ unfolding line5
 past5 c = sym (c .before .line5 .ensures) ∙ c .if1 .left
 
 returns-2 : tie.Need-returns-2
-unfolding tableLines line6
+unfolding tableLines tableLinesBy line6
 returns-2 c =
     whole-next _ _ _ _ _ (past5 (c .before .before .before .before .before .before))
     (whole-here _ _ _ _
@@ -40,7 +40,7 @@ refuse-records-requires : tie.Need-refuse-records-requires
 refuse-records-requires c κs = omega (arith, in-range _ _ (past5 (c .before .before .before .before .before .before)))
 
 returns-3 : tie.Need-returns-3
-unfolding tableLines line6
+unfolding tableLines tableLinesBy recordLines line6
 returns-3 c =
     let d = c .before in
     whole-next _ _ _ _ _ (past5 (d .before .before .before .before .before .before))

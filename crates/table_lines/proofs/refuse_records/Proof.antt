@@ -2,7 +2,7 @@ use mathlib.Core.Path.{_≡_}
 use mathlib.Core.List.{[], _∷_}
 use native.Mathlib.Omega.{arith}
 use Rattle.refusals.specs.Lines.{Refused, firstLine, whole, record-of}
-use Rattle.refusals.specs.TableLines.{line9, line10, line11, recordLines}
+use Rattle.refusals.specs.TableLines.{line9, line10, line11, recordLinesBy, recordLines}
 use Rattle.refusals.proofs.LineLaws.{whole-here, whole-next, none-here}
 use Rattle.table_lines.proofs.MarkedLaws.{none-next, marked-next, marked-here, marked-room, none-related, no-memory, some-memory}
 use borrow.Author.Needs.{needs}
@@ -23,7 +23,7 @@ fits7 c =
     }
 
 returns : tie.Need-returns
-unfolding recordLines
+unfolding recordLines recordLinesBy
 returns c =
     let marked = c .before .before .before in
     marked-here _ _ _ (marked .mark-records .ensures .0) (marked .before .pre) _ _ _ (c .before .if1 .taken) (c .lowest-set .ensures)
@@ -39,7 +39,7 @@ fits8 c =
     }
 
 returns-2 : tie.Need-returns-2
-unfolding recordLines
+unfolding recordLines recordLinesBy
 returns-2 c =
     let past7 = c .before .before .before in
     let marked = past7 .before .before in
@@ -54,7 +54,7 @@ past8 : (c : tie.Else2) (r : Refused) →
     (let t = c .before .before .before .before .before .args .t in
     r ≡ firstLine (t .count) (record-of 9 (line9 t) ∷ record-of 10 (line10 t) ∷ whole 11 (line11 t) ∷ []) →
     r ≡ firstLine (t .count) (recordLines t))
-unfolding recordLines
+unfolding recordLines recordLinesBy
 past8 c r h =
     let past7 = c .before .before in
     let marked = past7 .before .before in

@@ -13,11 +13,11 @@ use Rattle.witness_walk.proofs.walk.Statement.{statement}
 use Rattle.witness_walk.proofs.walk.Tie as tie
 
 abbrev Inv-loop : tie.InvT-loop
-Inv-loop facts pred succ mem watched order₀ goods₀ budget keep₀ masks₀ later₀ last₀ visited₀ order goods keep masks later last visited =
-    Going facts pred succ mem watched order₀ goods₀ keep₀ (masks₀ .can) later₀ budget order goods keep (masks .placed) (masks .can) later last visited
+Inv-loop facts words pred succ mem watched order₀ goods₀ budget keep₀ masks₀ later₀ last₀ visited₀ order goods keep masks later last visited =
+    Going facts words pred succ mem watched order₀ goods₀ keep₀ (masks₀ .can) later₀ budget order goods keep (masks .placed) (masks .can) later last visited
 
 abbrev μ-loop : tie.MeasureT-loop
-μ-loop facts pred succ mem watched order₀ goods₀ budget keep₀ masks₀ later₀ last₀ visited₀ order goods keep masks later last visited =
+μ-loop facts words pred succ mem watched order₀ goods₀ budget keep₀ masks₀ later₀ last₀ visited₀ order goods keep masks later last visited =
     (budget - visited) * 64 + keep
 
 -- the last entry is an event
@@ -28,8 +28,8 @@ last-event c = stand-last (c .before .before .loop .inv .stands) (omega arith) r
 -- What is known once the next event is chosen.
 module _ (d : tie.After-lowest-set Inv-loop μ-loop) where
   inv : let v = d .before .before .before .loop in
-      let a = d .before .before .before .before .before .args in
-      Going (a .facts .now) (a .pred .now) (a .succ .now) (a .mem) (a .watched) (a .order .now) (a .goods .now) (a .from .keep)
+      let a = d .before .before .before .before .before .before .args in
+      Going (a .facts .now) (a .words .now) (a .pred .now) (a .succ .now) (a .mem) (a .watched) (a .order .now) (a .goods .now) (a .from .keep)
       (a .from .masks .can) (a .from .later) (a .budget) (v .order) (v .goods) (v .keep) (v .masks .placed) (v .masks .can) (v .later)
       (v .last) (v .visited)
   inv = d .before .before .before .loop .inv
@@ -40,7 +40,7 @@ module _ (d : tie.After-lowest-set Inv-loop μ-loop) where
   low : d .lowest-set .result ≡ trailingZeros slots (d .before .before .before .loop .later)
   low = d .lowest-set .ensures
 
-  left : d .before .before .before .loop .visited ≡ d .before .before .before .before .before .args .budget → ⊥
+  left : d .before .before .before .loop .visited ≡ d .before .before .before .before .before .before .args .budget → ⊥
   left = d .before .if3 .left
 
   -- it is one of the events
@@ -48,7 +48,7 @@ module _ (d : tie.After-lowest-set Inv-loop μ-loop) where
   event = lowest-below (inv .stands) some low
 
 loop-holds : tie.Need-loop-holds Inv-loop μ-loop
-loop-holds c = let a = c .before in going-start _ (a .pre .0 .0) (a .pre .0 .1) (a .pre .1 .0) (a .pre .1 .1)
+loop-holds c = let a = c .before .before in going-start _ (a .pre .0 .0) (a .pre .0 .1) (a .pre .1 .0) (a .pre .1 .1)
 
 returns : tie.Need-returns Inv-loop μ-loop
 returns c = going-none (c .before .before .loop .inv) (c .before .if1 .taken) (c .if2 .taken)

@@ -1,0 +1,3 @@
+pub mod Machine
+pub mod Meeting
+pub mod Wanted

@@ -1,0 +1,33 @@
+-- What is looked for in an order.
+use Prim.Native.Nat.{ℕ}
+use mathlib.Core.Path.{_≡_}
+use mathlib.Core.Bool.{Bool, true, false}
+use mathlib.Core.List.{List, [], _∷_}
+use Rattle.table.specs.declared.Table.{Table}
+use Rattle.text_format.specs.Condition.{Condition, fits}
+use Rattle.condition_reader.specs.Words.{code}
+use Rattle.model.specs.Following.{meets, namesUnknown}
+use Rattle.model.specs.Witness.{isOrder, witnessFor, statedOutcome}
+use Rattle.model.specs.Prefixes.{clean}
+use Rattle.fact_rows.specs.FactRows.{Facts}
+use Rattle.fact_rows.specs.ValueRows.{Values}
+
+-- the outcome is a condition, which the words are
+pub record Conditioned (t : Table) (facts : List (List ℕ)) (words : List ℕ) (outcome : List ℕ → Bool) : Type 0 where
+  pub condition : Condition
+  pub coded : words ≡ code condition
+  pub asked : outcome ≡ meets t condition
+  pub fitting : fits condition ≡ true
+  pub known : namesUnknown t condition ≡ false
+  pub values : Values t facts
+
+-- without words the outcome that the table states, else the condition of the words
+abbrev pub Wants : Table → List (List ℕ) → List ℕ → (List ℕ → Bool) → Type 0
+Wants t facts [] outcome = outcome ≡ statedOutcome t
+Wants t facts (w ∷ ws) outcome = Conditioned t facts (w ∷ ws) outcome
+
+-- r tells whether the clean order gmo is a witness of what is looked for
+abbrev pub Witnesses : List (List ℕ) → List ℕ → List ℕ → Bool → Type 0
+Witnesses facts words gmo r =
+    (t : Table) (outcome : List ℕ → Bool) → Facts t facts → Wants t facts words outcome → isOrder t gmo ≡ true →
+    clean t gmo ≡ true → r ≡ witnessFor t outcome gmo

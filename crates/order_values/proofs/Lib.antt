@@ -1,0 +1,4 @@
+pub mod WordLaws
+pub mod EndLaws
+pub mod AlongLaws
+pub mod ReadLaws

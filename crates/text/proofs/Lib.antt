@@ -1,0 +1,7 @@
+pub mod OutcomeLaws
+pub mod CoverLaws
+pub mod UnknownLaws
+pub mod JudgeLaws
+pub mod TableLaws
+pub mod TextLaws
+pub mod WorkedCases
