@@ -1,0 +1,134 @@
+//! Whether the rules allow an outcome: asked of the proved library, table by table.
+
+use crate::case::Case;
+use crate::choices::Choices;
+use crate::error::Error;
+use crate::litmus::{Expected, Test};
+use crate::progress::Progress;
+use cogthunder::{returns, Answer, Refusal, Witnesses, EVENTS};
+
+/// How many prefixes are visited for one test unless another bound is given.
+pub const MOST_VISITED: u64 = 100_000_000;
+
+/// How many one call visits, so that the progress can be shown between calls.
+const ALLOWANCE: u64 = 1_000_000;
+
+/// The answer for one test.
+#[derive(Clone, Copy, PartialEq, Eq, Debug)]
+pub enum Verdict {
+    Allowed,
+    Forbidden,
+    /// The bound was reached before.
+    Undecided,
+}
+
+/// A table with an order that shows its outcome.
+#[derive(Clone, Debug)]
+pub struct Witness {
+    pub case: Case,
+    pub order: Vec<u8>,
+    /// What each event returns from, as the library's returned list has it.
+    pub returned: Vec<u8>,
+}
+
+/// What was found out about a test.
+#[derive(Clone, Debug)]
+pub struct Decision {
+    pub verdict: Verdict,
+    pub visited: u64,
+    /// How many tables were asked about.
+    pub tables: u64,
+    /// The first table.
+    pub first: Option<Case>,
+    /// The first witness, of an allowed outcome.
+    pub witness: Option<Witness>,
+}
+
+impl Verdict {
+    /// Whether it is what a file or the caller expects.
+    pub fn is(self, expected: Expected) -> bool {
+        match expected {
+            Expected::Allowed => self == Verdict::Allowed,
+            Expected::Forbidden => self == Verdict::Forbidden,
+        }
+    }
+
+    pub fn word(self) -> &'static str {
+        match self {
+            Verdict::Allowed => "allowed",
+            Verdict::Forbidden => "forbidden",
+            Verdict::Undecided => "undecided",
+        }
+    }
+}
+
+fn refused(refusal: Refusal) -> Error {
+    Error::new(format!("the library declines the table, {refusal}"))
+}
+
+/// A walk over tables, up to a bound on the prefixes visited.
+pub struct Decider<'p> {
+    most: u64,
+    progress: &'p mut Progress,
+    decision: Decision,
+}
+
+impl<'p> Decider<'p> {
+    /// For one test.
+    pub fn new(most: u64, progress: &'p mut Progress) -> Decider<'p> {
+        let decision = Decision { verdict: Verdict::Forbidden, visited: 0, tables: 0, first: None, witness: None };
+        Decider { most, progress, decision }
+    }
+
+    /// Decides a litmus test: it is allowed if one of its tables is.
+    pub fn litmus(mut self, test: &Test) -> Result<Decision, Error> {
+        Choices::asked(test)?.visit(&mut |choice| {
+            self.table(Case::of(test, &choice)?).map_err(refused)?;
+            Ok(self.decision.verdict != Verdict::Allowed)
+        })?;
+        Ok(self.decision)
+    }
+
+    /// Decides one table.
+    pub fn case(mut self, case: Case) -> Result<Decision, Error> {
+        self.table(case).map_err(refused)?;
+        Ok(self.decision)
+    }
+
+    fn table(&mut self, case: Case) -> Result<(), Refusal> {
+        let test = case.table.test()?;
+        let mut walk = Witnesses::pruned(&test)?;
+        let before = self.decision.visited;
+        loop {
+            let left = self.most - self.decision.visited;
+            if left == 0 {
+                self.decision.verdict = Verdict::Undecided;
+                break;
+            }
+            walk = walk.allowance(left.min(ALLOWANCE));
+            let answer = walk.step();
+            self.decision.visited = before + walk.visited();
+            self.progress.show(self.decision.visited);
+            match answer {
+                Answer::Found { .. } => {
+                    self.found(&case, &test, walk.start())?;
+                    break;
+                }
+                Answer::NoneLeft { .. } => break,
+                Answer::Spent { .. } => {}
+            }
+        }
+        self.decision.tables += 1;
+        self.decision.first.get_or_insert(case);
+        Ok(())
+    }
+
+    fn found(&mut self, case: &Case, test: &[u8], order: &[u8]) -> Result<(), Refusal> {
+        let mut returned = [0; EVENTS];
+        returns(test, order, &mut returned)?;
+        let returned = returned[..case.texts.len()].to_vec();
+        self.decision.verdict = Verdict::Allowed;
+        self.decision.witness = Some(Witness { case: case.clone(), order: order.to_vec(), returned });
+        Ok(())
+    }
+}
