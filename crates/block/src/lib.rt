@@ -76,7 +76,7 @@ pub fn marker_wrong(s: &[u8]) -> bool
     (s[0] != MARKER[0]) | (s[1] != MARKER[1]) | (s[2] != MARKER[2]) | (s[3] != MARKER[3])
 }
 
-// What edition 1 asks, and the table.
+// What edition 1 asks, and the table. A good one isn't handed on, as a call would copy it.
 fn read_one(s: &[u8]) -> Reading
     requires { ⌜ blockLength ≤ length (now s) ⌝ }
     ensures { λ r. ⌜ ReadsAs one (now (s .entry)) (refusalOf (r .refusal)) (r .table) ⌝ }
@@ -85,10 +85,18 @@ fn read_one(s: &[u8]) -> Reading
         return refused(1);
     }
     let t = decode::decode(s);
-    table_if(
-        table_lines::refuse(t, EditionOne::EVENTS, zero_bytes::bytes_not_zero(s)),
-        t,
-    )
+    let refusal = table_lines::refuse(t, EditionOne::EVENTS, zero_bytes::bytes_not_zero(s));
+    match refusal {
+        Refusal::None => Reading {
+            refusal: Refusal::None,
+            table: t,
+        },
+        Refusal::Line(n) => refused(n),
+        Refusal::Record(n, k) => Reading {
+            refusal: Refusal::Record(n, k),
+            table: no_table(),
+        },
+    }
 }
 
 // The check of a block behind the first.

@@ -1,6 +1,8 @@
 // Lines 9 and 10: tests of a record against the other records of its hart.
+use edition::EditionOne;
 use masks::lowest_set;
 use masks::one;
+use masks::one_if;
 use table::Event;
 use table::EventNo;
 use table::Kind;
@@ -14,6 +16,7 @@ ghost use Rattle.lists.specs.Below.{some};
 ghost use Rattle.masks.specs.Bit.{bit};
 ghost use Rattle.table.specs.Events.{capacity, writingKind, paired, sameLocation};
 ghost use Rattle.refusals.specs.TableLines.{namesWrongly, dataOfNonWriter, lacksControl, line9, pairedHere, line10};
+ghost use Rattle.dependency_lines.specs.Passing.{mayBreak, reservedAfter, after, Clears};
 
 // The events that one of the three masks of `e` names.
 fn named(e: Event) -> u32
@@ -109,4 +112,78 @@ pub fn line10(t: Table, k: EventNo) -> bool
     } else {
         false
     }
+}
+
+// Of a hart's events before the one that is looked at.
+struct Passed {
+    // Those that a mask may name.
+    sources: u32,
+    // The control bits of them all.
+    controls: u32,
+    // One more than the location of the last LR, if no SC stands behind it.
+    reserved: u16,
+}
+
+// `e` may break line 9 or 10, by what its hart has passed.
+fn may_break(p: Passed, e: Event) -> bool
+    ensures { λ r. ⌜ r ≡ mayBreak p e ⌝ }
+{
+    lacks(named(e), p.sources)
+        | (!table::writes(e) & (e.data != 0))
+        | (table::memory(e) & lacks(p.controls, e.ctrl))
+        | ((e.kind == Kind::SC) & (p.reserved != e.location.0 as u16 + 1))
+}
+
+fn reserved_after(reserved: u16, e: Event) -> u16
+    ensures { λ r. ⌜ r ≡ reservedAfter reserved e ⌝ }
+{
+    if e.kind == Kind::LR {
+        return e.location.0 as u16 + 1;
+    }
+    if e.kind == Kind::SC {
+        return 0;
+    }
+    reserved
+}
+
+// The same once event k, which is `e`, is passed.
+fn after(p: Passed, k: EventNo, e: Event) -> Passed
+    requires { ⌜ k .0 < capacity ⌝ }
+    ensures { λ r. ⌜ r ≡ after p (k .0) e ⌝ }
+{
+    let nameable = (e.kind != Kind::STORE) & !table::fences(e);
+    Passed {
+        sources: p.sources | one_if(nameable, k.0),
+        controls: p.controls | e.ctrl,
+        reserved: reserved_after(p.reserved, e),
+    }
+}
+
+// Line 9 or 10 may hold of some event: if not, it holds of none. One pass for all, as good tables are many, and a table by value
+// is copied at each call.
+pub fn some_may_break(t: Table) -> bool
+    requires { ⌜ t .count ≤ capacity ⌝ }
+    ensures { λ r. ⌜ Clears t r ⌝ }
+{
+    let none = Passed {
+        sources: 0,
+        controls: 0,
+        reserved: 0,
+    };
+    let mut harts = [none; EditionOne::HARTS];
+    let mut k: u8 = 0;
+    while k < t.count {
+        let e = t.events[k as usize];
+        let h = e.hart as usize;
+        if EditionOne::HARTS <= h {
+            return true;
+        }
+        let p = harts[h];
+        if may_break(p, e) {
+            return true;
+        }
+        harts[h] = after(p, EventNo(k), e);
+        k += 1;
+    }
+    false
 }

@@ -20,14 +20,15 @@ use table::Event;
 use table::Table;
 ghost use Prim.Native.Nat.{_≤_, _<_};
 ghost use mathlib.Core.Path.{_≡_};
-ghost use mathlib.Core.Bool.{not};
+ghost use mathlib.Core.Bool.{not, _&&_};
 ghost use lib.Dec.{eqb};
 ghost use lib.ListN.{getD};
 ghost use Rattle.lists.specs.Below.{below};
 ghost use Rattle.lists.specs.Lists.{keep};
+ghost use Rattle.masks.specs.Bit.{bit};
 ghost use Rattle.masks.specs.MaskOf.{maskOf};
 ghost use Rattle.edition.specs.Limits.{maxHarts, maxLocations};
-ghost use Rattle.table.specs.Events.{capacity};
+ghost use Rattle.table.specs.Events.{capacity, writingKind};
 ghost use Rattle.table.specs.Counts.{Small};
 ghost use Rattle.model.specs.Returns.{initialValue};
 ghost use Rattle.placing.specs.GoodTable.{GoodTable};
@@ -52,19 +53,50 @@ fn around(s: Sets, count: u8, number: u8, e: Event) -> Around
     }
 }
 
-// For each event its window.
-fn window_rows(t: Table, s: Sets) -> [u32; CAPACITY]
-    requires { ⌜ GoodTable t × (s ≡ setsOf t) ⌝ }
-    ensures { λ rows. ⌜ rows ≡ masksBy t (opens t) ⌝ }
+// `x` writes to a location whose final value is stated.
+fn writes_stated(stated: u8, x: Event) -> bool
+    requires { ⌜ x .location .0 < maxLocations ⌝ }
+    ensures { λ r. ⌜ r ≡ (writingKind (x .kind) && bit stated (x .location .0)) ⌝ }
 {
-    let mut rows = [0u32; CAPACITY];
+    table::writes(x) & has(stated as u32, x.location.0 as u32)
+}
+
+// Made in one pass, as a table by value is copied at each call.
+struct Seen {
+    // For each event its window, and the value that it states.
+    window: [u32; CAPACITY],
+    values: [u16; CAPACITY],
+    // The good at the start, and the writers of wrong final values.
+    good: u32,
+    wrong: u32,
+}
+
+fn look(t: Table, s: Sets) -> Seen
+    requires { ⌜ GoodTable t × (s ≡ setsOf t) ⌝ }
+    ensures { λ r. ⌜ (r .window ≡ masksBy t (opens t)) × (r .values ≡ statedValues t) ⌝ }
+    ensures { λ r. ⌜ (r .good ≡ maskBy t (good t (initialValue t))) × (r .wrong ≡ maskBy t (wrong t)) ⌝ }
+{
+    let mut window = [0u32; CAPACITY];
+    let mut values = [0u16; CAPACITY];
+    let mut good: u32 = 0;
+    let mut wrong: u32 = 0;
     let mut e: u8 = 0;
     while e < t.count {
-        let a = around(s, t.count, e, t.events[e as usize]);
-        rows[e as usize] = window_row(a, s.reserving);
+        let x = t.events[e as usize];
+        let a = around(s, t.count, e, x);
+        window[e as usize] = window_row(a, s.reserving);
+        values[e as usize] = x.read;
+        let k = x.location.0 as usize;
+        good = good | one_if(!table::reads(x) | (t.initial[k] == x.read), e);
+        wrong = wrong | one_if(writes_stated(t.stated, x) & (x.written != t.finals[k]), e);
         e += 1;
     }
-    rows
+    Seen {
+        window,
+        values,
+        good,
+        wrong,
+    }
 }
 
 // The mask of the events whose row isn't empty.
@@ -79,20 +111,6 @@ fn filled(rows: &[u32; CAPACITY], count: u8) -> u32
         e += 1;
     }
     mask
-}
-
-// The value that each event states.
-fn stated_values(t: Table) -> [u16; CAPACITY]
-    requires { ⌜ t .count ≤ capacity ⌝ }
-    ensures { λ list. ⌜ list ≡ statedValues t ⌝ }
-{
-    let mut list = [0u16; CAPACITY];
-    let mut e: u8 = 0;
-    while e < t.count {
-        list[e as usize] = t.events[e as usize].read;
-        e += 1;
-    }
-    list
 }
 
 // The mask of the locations that nothing writes and whose stated final value isn't the initial one.
@@ -113,27 +131,13 @@ fn unmet_word(t: Table, s: Sets) -> u32
 }
 
 // The words of the last row: the good at the start, the writers of wrong final values, and the locations that aren't met.
-fn words(t: Table, s: Sets) -> [u32; CAPACITY]
-    requires { ⌜ Small t × (s ≡ setsOf t) ⌝ }
-    ensures { λ row. ⌜ getD row goodWord 0 ≡ maskBy t (good t (initialValue t)) ⌝ }
-    ensures { λ row. ⌜ getD row wrongWord 0 ≡ maskBy t (wrong t) ⌝ }
-    ensures { λ row. ⌜ getD row unmetWord 0 ≡ maskOf (keep (unmet t) (below (t .locations))) ⌝ }
+fn words(good: u32, wrong: u32, unmet: u32) -> [u32; CAPACITY]
+    ensures { λ row. ⌜ (getD row goodWord 0 ≡ good) × (getD row wrongWord 0 ≡ wrong) × (getD row unmetWord 0 ≡ unmet) ⌝ }
 {
-    let mut good: u32 = 0;
-    let mut wrong: u32 = 0;
-    let mut e: u8 = 0;
-    while e < t.count {
-        let x = t.events[e as usize];
-        let k = x.location.0 as usize;
-        good = good | one_if(!table::reads(x) | (t.initial[k] == x.read), e);
-        let stated = table::writes(x) & has(t.stated as u32, x.location.0 as u32);
-        wrong = wrong | one_if(stated & (x.written != t.finals[k]), e);
-        e += 1;
-    }
     let mut row = [0u32; CAPACITY];
     row[GOOD] = good;
     row[WRONG] = wrong;
-    row[UNMET] = unmet_word(t, s);
+    row[UNMET] = unmet;
     row
 }
 
@@ -141,9 +145,10 @@ pub fn of_table(t: Table, s: Sets) -> [[u32; CAPACITY]; ROWS]
     requires { ⌜ GoodTable t × (s ≡ setsOf t) ⌝ }
     ensures { λ facts. ⌜ Facts t facts ⌝ }
 {
-    let window = window_rows(t, s);
+    let seen = look(t, s);
+    let window = seen.window;
+    let stated = seen.values;
     let windows = filled(&window, t.count);
-    let stated = stated_values(t);
     let mut own = [0u32; CAPACITY];
     let mut needs = [0u32; CAPACITY];
     let mut ground = [0u32; CAPACITY];
@@ -166,7 +171,7 @@ pub fn of_table(t: Table, s: Sets) -> [[u32; CAPACITY]; ROWS]
         peers[k] = peer_row(a);
         e += 1;
     }
-    let sets = words(t, s);
+    let sets = words(seen.good, seen.wrong, unmet_word(t, s));
     // The rows that only texts have.
     let none = [0u32; CAPACITY];
     [

@@ -1,17 +1,17 @@
 -- The first line that holds, told by masks of the records.
 use Prim.Native.Nat.{ℕ, _≤_, _<_}
 use mathlib.Core.Path.{_≡_, refl, sym, ap, _∙_}
-use mathlib.Core.Bool.{Bool, true, false, not, _&&_, _||_}
+use mathlib.Core.Bool.{Bool, true, false, not, _&&_}
 use mathlib.Core.List.{List, _∷_}
 use native.Mathlib.Omega.{arith}
 use native.Mathlib.Nat.{le-antisymm}
-use lib.Dec.{eqb, ltb}
+use lib.Dec.{ltb}
 use lib.Count.{trailingZeros}
-use borrow.Author.Tests.{ltb-true, ltb-false, eq-eqb, ne-eqb, not-false}
+use borrow.Author.Tests.{ltb-true, ltb-false, eq-eqb, ne-eqb}
 use Rattle.lists.specs.Below.{below, lowest, some}
 use Rattle.lists.specs.Lists.{keep}
-use Rattle.lists.proofs.BoolLaws.{and-l, and-r, and-left, or-off, not-either}
-use Rattle.lists.proofs.SomeLaws.{lowest-hit, lowest-least, some-none, none-at}
+use Rattle.lists.proofs.BoolLaws.{and-l, and-r, not-either}
+use Rattle.lists.proofs.SomeLaws.{lowest-hit, lowest-least}
 use Rattle.masks.specs.Bit.{bit}
 use Rattle.masks.specs.MaskOf.{maskOf}
 use Rattle.masks.proofs.PowerLaws.{trailing-lowest}
@@ -19,11 +19,10 @@ use Rattle.masks.proofs.PartLaws.{lowest-room}
 use Rattle.masks.proofs.MaskOfLaws.{mask-below, mask-below-lt}
 use Rattle.masks.proofs.BelowLaws.{mask-at, mask-some}
 use Rattle.table.specs.declared.Table.{Table}
-use Rattle.table.specs.Events.{kind, sc, memory, memoryEvents, memoryMask}
+use Rattle.table.specs.Events.{memory, memoryEvents, memoryMask}
 use Rattle.refusals.specs.Lines.{Refused, byRecord, Line, record-of, firstLine}
-use Rattle.refusals.specs.TableLines.{line9, line10, line11}
+use Rattle.refusals.specs.TableLines.{line11}
 use Rattle.refusals.proofs.LineLaws.{record-here, record-next}
-use Rattle.dependency_lines.proofs.DependencyLaws.{dependsOnNone, none-wrong}
 
 -- a line that holds of no record: the next line decides
 pub none-next : (n k : ℕ) (f : ℕ → Bool) (ls : List Line) (r : Refused) → some n f ≡ false → r ≡ firstLine n ls → r ≡ firstLine n (record-of k f ∷ ls)
@@ -73,21 +72,6 @@ module _ (n : ℕ) (f : ℕ → Bool) (m : ℕ) (marks : m ≡ maskOf (keep f (b
           go : (b : Bool) → ltb i (lowest n f) ≡ b → lowest n f ≤ i
           go true q = absurd (not-either _ (and-r (ltb i n) (f i) found) (lowest-least n f i (ltb-true i (lowest n f) q)))
           go false q = ltb-false i (lowest n f) q
-
--- no record depends on others or is an SC: lines 9 and 10 hold of none
-pub none-related : (t : Table) (m : ℕ) → m ≡ maskOf (keep (λ k. not (dependsOnNone t k) || eqb (kind t k) sc) (below (t .count))) → m ≡ 0
-    → (some (t .count) (line9 t) ≡ false) × (some (t .count) (line10 t) ≡ false)
-unfolding line10
-none-related t m q z = (
-  some-none (t .count) (line9 t) (λ k l. none-wrong t k (not-false _ (off k l .0))),
-  some-none (t .count) (line10 t) (λ k l. sym (and-left _ _ (off k l .1))),
-)
-  where
-    related : ℕ → Bool
-    related k = not (dependsOnNone t k) || eqb (kind t k) sc
-
-    off : (k : ℕ) → k < t .count → (not (dependsOnNone t k) ≡ false) × (eqb (kind t k) sc ≡ false)
-    off k l = or-off (not (dependsOnNone t k)) (eqb (kind t k) sc) (none-at (t .count) related k (none-marked (t .count) related m q z) l)
 
 -- line 11 by the mask of the memory events
 pub no-memory : (t : Table) (m : ℕ) → m ≡ memoryMask t → m ≡ 0 → line11 t ≡ true

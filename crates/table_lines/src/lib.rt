@@ -10,26 +10,22 @@ use table::Kind;
 use table::Table;
 ghost use Prim.Native.Nat.{_≤_};
 ghost use mathlib.Core.Path.{_≡_};
-ghost use mathlib.Core.Bool.{false, not, _||_};
+ghost use mathlib.Core.Bool.{false};
 ghost use mathlib.Core.List.{[], _∷_};
-ghost use lib.Dec.{eqb};
 ghost use Rattle.lists.specs.Below.{lowest, below};
 ghost use Rattle.lists.specs.Lists.{keep};
 ghost use Rattle.masks.specs.MaskOf.{maskOf};
 ghost use Rattle.edition.specs.Limits.{two, mostEvents};
-ghost use Rattle.table.specs.Events.{capacity, kind, sc, memoryMask};
+ghost use Rattle.table.specs.Events.{capacity, memoryMask};
 ghost use Rattle.refusals.specs.Lines.{firstLine, whole, record-of};
 ghost use Rattle.refusals.specs.TableLines.{line7, line8, line9, line10, line11, textLine7, recordLines, tableLinesBy, tableLines};
 ghost use Rattle.refusals.specs.Refusals.{refusalOf};
-ghost use Rattle.dependency_lines.proofs.DependencyLaws.{dependsOnNone};
 ghost use Rattle.table_lines.specs.AsBlock.{asBlock, AsBlock};
 
-// Masks of the records: those that line 7 refuses, and line 8; those that lines 9 and 10 may refuse; the memory events.
+// Masks of the records: those that line 7 refuses, and line 8; the memory events.
 struct Marks {
     fields: u32,
     annotations: u32,
-    // Those that depend on others, and the SCs.
-    related: u32,
     memory: u32,
 }
 
@@ -38,27 +34,22 @@ fn mark_records(t: Table) -> Marks
     requires { ⌜ t .count ≤ capacity ⌝ }
     ensures { λ r. ⌜ r .fields ≡ maskOf (keep (line7 t) (below (t .count))) ⌝ }
     ensures { λ r. ⌜ r .annotations ≡ maskOf (keep (line8 t) (below (t .count))) ⌝ }
-    ensures { λ r. ⌜ r .related ≡ maskOf (keep (λ k. not (dependsOnNone t k) || eqb (kind t k) sc) (below (t .count))) ⌝ }
     ensures { λ r. ⌜ r .memory ≡ memoryMask t ⌝ }
 {
     let mut fields: u32 = 0;
     let mut annotations: u32 = 0;
-    let mut related: u32 = 0;
     let mut memory: u32 = 0;
     let mut k: u8 = 0;
     while k < t.count {
         let e = t.events[k as usize];
         fields = fields | one_if(record_lines::line7(t.harts, t.locations, e), k);
         annotations = annotations | one_if(record_lines::line8(e), k);
-        let alone = dependency_lines::depends_on_none(e);
-        related = related | one_if(!alone | (e.kind == Kind::SC), k);
         memory = memory | one_if(table::memory(e), k);
         k += 1;
     }
     Marks {
         fields,
         annotations,
-        related,
         memory,
     }
 }
@@ -132,7 +123,7 @@ fn refuse_records(t: Table) -> Refusal
     if marks.annotations != 0 {
         return Refusal::Record(8, EventNo(lowest_set(marks.annotations) as u8));
     }
-    if marks.related != 0 {
+    if dependency_lines::some_may_break(t) {
         return refuse_related(t, marks.memory);
     }
     if marks.memory == 0 {

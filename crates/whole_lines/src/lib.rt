@@ -79,9 +79,9 @@ fn blank(e: Event) -> bool
 pub fn past_not_blank(t: Table) -> bool
     ensures { λ r. ⌜ r ≡ some capacity (pastNotBlank t) ⌝ }
 {
-    let mut k: u8 = 0;
+    let mut k: u8 = t.count;
     while (k as usize) < table::CAPACITY {
-        if (t.count <= k) & !blank(t.events[k as usize]) {
+        if !blank(t.events[k as usize]) {
             return true;
         }
         k += 1;

@@ -1,6 +1,6 @@
 use Prim.Native.Nat.{ℕ, suc, _-_, _≤_, _<_}
 use native.Mathlib.Omega.{arith}
-use mathlib.Core.Path.{_≡_, ap}
+use mathlib.Core.Path.{_≡_, ap, _∙_}
 use mathlib.Core.List.{List}
 use Rattle.lists.proofs.PaddedLaws.{Padded, pad-start, pad-more, pad-end}
 use Rattle.table.specs.declared.Table.{Table}
@@ -23,31 +23,28 @@ record Filling (t : Table) (e : ℕ) (ownRows needsRows groundRows guardsRows he
   peers-so-far : Padded (λ (k : ℕ). maskBy t (peers t k)) capacity (t .count) e peersRows
 
 abbrev Inv-loop : tie.InvT-loop
-Inv-loop s t window windows stated own₀ needs₀ ground₀ guards₀ here₀ right₀ peers₀ e₀ own needs ground guards here right peers e =
+Inv-loop s t seen window stated windows own₀ needs₀ ground₀ guards₀ here₀ right₀ peers₀ e₀ own needs ground guards here right peers e =
     Filling t e own needs ground guards here right peers
 
 abbrev μ-loop : tie.MeasureT-loop
-μ-loop s t window windows stated own₀ needs₀ ground₀ guards₀ here₀ right₀ peers₀ e₀ own needs ground guards here right peers e =
+μ-loop s t seen window stated windows own₀ needs₀ ground₀ guards₀ here₀ right₀ peers₀ e₀ own needs ground guards here right peers e =
     t .count - e
 
 -- the events are few
 few : (c : tie.In-loop Inv-loop μ-loop) → suc (c .before .loop .e) < capacity
-few c = omega (arith, c .loop-test .taken, c .before .before .before .before .before .before .pre .0 .small .events)
+few c = omega (arith, c .loop-test .taken, c .before .before .before .before .before .before .before .pre .0 .small .events)
 
 -- and the one looked at is among them
 numbered : (c : tie.After-around Inv-loop μ-loop) → (c .around .result .number < capacity) × (c .around .result .count < capacity)
 numbered c =
     let d = c .before .before in
-    let start = d .before .before .before .before .before .before in
+    let start = d .before .before .before .before .before .before .before in
     let q : c .around .result .number ≡ d .before .loop .e = ap (λ (a : Around). a .number) (c .around .ensures) in
     let n : c .around .result .count ≡ start .args .t1 .count = ap (λ (a : Around). a .count) (c .around .ensures) in
     (omega (arith, few d), omega (arith, start .pre .0 .small .events))
 
 filled-requires : tie.Need-filled-requires Inv-loop μ-loop
-filled-requires c κs = omega (arith, c .before .before .pre .0 .small .events)
-
-stated-values-requires : tie.Need-stated-values-requires Inv-loop μ-loop
-stated-values-requires c κs = omega (arith, c .before .before .before .pre .0 .small .events)
+filled-requires c κs = omega (arith, c .before .before .before .before .pre .0 .small .events)
 
 loop-holds : tie.Need-loop-holds Inv-loop μ-loop
 loop-holds c =
@@ -65,7 +62,7 @@ around-requires : tie.Need-around-requires Inv-loop μ-loop
 unfolding event hart location
 around-requires c κs =
     let d = c .before in
-    let small = d .before .before .before .before .before .before .pre .0 .small in
+    let small = d .before .before .before .before .before .before .before .pre .0 .small in
     (small .each-hart (d .before .loop .e) (d .loop-test .taken), small .each-location (d .before .loop .e) (d .loop-test .taken))
 
 own-row-requires : tie.Need-own-row-requires Inv-loop μ-loop
@@ -103,9 +100,9 @@ loop-again : tie.Need-loop-again Inv-loop μ-loop
 unfolding event
 loop-again c =
     let d = c .before .before .before .before .before .before .before .before .before .before in
-    let filled = d .before .before .before in
-    let windows = filled .before .before in
-    let start = windows .before in
+    let filled = d .before .before in
+    let seen = filled .before .before .before .before in
+    let start = seen .before in
     let t = start .args .t1 in
     let good = start .pre .0 in
     let sets = start .pre .1 in
@@ -125,37 +122,39 @@ loop-again c =
           (row-at t _ sets good (v .e) l _ a needed _ (needing .needs-row .ensures));
       ground-so-far =
           pad-more _ _ _ _ _ _ room (v .inv .ground-so-far) l
-          (ground-at t _ sets good (v .e) l _ a _ _ (windows .window-rows .ensures) (guard .before .ground-row .ensures));
+          (ground-at t _ sets good (v .e) l _ a _ _ (seen .look .ensures .0 .0) (guard .before .ground-row .ensures));
       guards-so-far =
           pad-more _ _ _ _ _ _ room (v .inv .guards-so-far) l
           (guards-at t _ sets good (v .e) l _ a _ _
-          (windows-are t room _ _ (windows .window-rows .ensures) (filled .filled .ensures)) (guard .guard-row .ensures));
+          (windows-are t room _ _ (seen .look .ensures .0 .0) (filled .filled .ensures)) (guard .guard-row .ensures));
       here-so-far = pad-more _ _ _ _ _ _ room (v .inv .here-so-far) l readers;
       right-so-far =
           pad-more _ _ _ _ _ _ room (v .inv .right-so-far) l
-          (right-at t room (v .e) _ _ _ (d .before .before .stated-values .ensures) readers (c .before .right-row .ensures));
+          (right-at t room (v .e) _ _ _ (seen .look .ensures .0 .1) readers (c .before .right-row .ensures));
       peers-so-far =
           pad-more _ _ _ _ _ _ room (v .inv .peers-so-far) l (row-at t _ sets good (v .e) l _ a peers _ (c .peer-row .ensures));
     }
 
 returns : tie.Need-returns Inv-loop μ-loop
 returns c =
-    let v = c .before .before .loop .inv in
-    let l = c .before .loop-test .left in
-    let windows = c .before .before .before .before .before .before in
+    let d = c .before .before in
+    let v = d .before .loop .inv in
+    let l = d .loop-test .left in
+    let seen = d .before .before .before .before .before .before in
+    let words = c .words .ensures in
     record {
-      table = windows .before .pre .0;
+      table = seen .before .pre .0;
       own = pad-end _ _ _ _ _ (v .own-so-far) l;
       needs = pad-end _ _ _ _ _ (v .needs-so-far) l;
-      windows = windows .window-rows .ensures;
+      windows = seen .look .ensures .0 .0;
       grounds = pad-end _ _ _ _ _ (v .ground-so-far) l;
       guards = pad-end _ _ _ _ _ (v .guards-so-far) l;
       here = pad-end _ _ _ _ _ (v .here-so-far) l;
       right = pad-end _ _ _ _ _ (v .right-so-far) l;
       peers = pad-end _ _ _ _ _ (v .peers-so-far) l;
-      good = c .words .ensures .0;
-      wrong = c .words .ensures .1 .0;
-      unmet = c .words .ensures .1 .1;
+      good = words .0 ∙ seen .look .ensures .1 .0;
+      wrong = words .1 ∙ seen .look .ensures .1 .1;
+      unmet = words .2 ∙ c .before .unmet-word .ensures;
     }
 
 pub of-table-spec : {M : Type 1} → statement M
@@ -166,7 +165,6 @@ of-table-spec =
     μ-loop
     (λ c κs. search needs)
     filled-requires
-    stated-values-requires
     loop-holds
     (λ c. search needs)
     (λ c. search needs)
@@ -198,5 +196,6 @@ of-table-spec =
     add-e
     loop-less
     loop-again
+    (λ c κs. search needs)
     (λ c κs. search needs)
     returns)

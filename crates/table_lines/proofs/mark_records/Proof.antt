@@ -1,44 +1,38 @@
 use Prim.Native.Nat.{ℕ, _-_, _<_}
-use mathlib.Core.Bool.{not, _||_}
 use native.Mathlib.Omega.{arith}
-use lib.Dec.{eqb}
 use Rattle.masks.proofs.GatherLaws.{Gathered, gather-start, gather-more, gather-end}
 use Rattle.table.specs.declared.Table.{Table}
-use Rattle.table.specs.Events.{kind, sc, memory, memoryEvents, memoryMask}
+use Rattle.table.specs.Events.{memory, memoryEvents, memoryMask}
 use Rattle.table.proofs.EventTests.{ofEvents}
 use Rattle.refusals.specs.TableLines.{line7, line8}
-use Rattle.dependency_lines.proofs.DependencyLaws.{dependsOnNone}
 use borrow.Author.Needs.{needs}
 use Rattle.table_lines.proofs.mark_records.Statement.{statement}
 use Rattle.table_lines.proofs.mark_records.Tie as tie
 
 -- of the records those before k are marked
-record Marking (t : Table) (k fields annotations related memories : ℕ) : Type 0 where
+record Marking (t : Table) (k fields annotations memories : ℕ) : Type 0 where
   fields-so-far : Gathered (line7 t) (t .count) k fields
   annotations-so-far : Gathered (line8 t) (t .count) k annotations
-  related-so-far : Gathered (λ e. not (dependsOnNone t e) || eqb (kind t e) sc) (t .count) k related
   memory-so-far : Gathered (memory t) (t .count) k memories
 
 abbrev Inv-loop : tie.InvT-loop
-Inv-loop t fields₀ annotations₀ related₀ memory₀ k₀ fields annotations related memories k = Marking t k fields annotations related memories
+Inv-loop t fields₀ annotations₀ memory₀ k₀ fields annotations memories k = Marking t k fields annotations memories
 
 abbrev μ-loop : tie.MeasureT-loop
-μ-loop t fields₀ annotations₀ related₀ memory₀ k₀ fields annotations related memories k = t .count - k
+μ-loop t fields₀ annotations₀ memory₀ k₀ fields annotations memories k = t .count - k
 
 loop-holds : tie.Need-loop-holds Inv-loop μ-loop
 loop-holds c =
     record {
       fields-so-far = gather-start _ _;
       annotations-so-far = gather-start _ _;
-      related-so-far = gather-start _ _;
       memory-so-far = gather-start _ _;
     }
 
 loop-again : tie.Need-loop-again Inv-loop μ-loop
 unfolding line7 line8 ofEvents
 loop-again c =
-    let third = c .before .before in
-    let second = third .before .before .before in
+    let second = c .before .before in
     let first = second .before .before in
     let d = first .before .before .before .before in
     let v = d .loop .inv in
@@ -46,8 +40,7 @@ loop-again c =
     record {
       fields-so-far = gather-more _ _ _ _ _ (v .fields-so-far) l (rw (first .before .line7 .ensures) at (first .one-if .ensures));
       annotations-so-far = gather-more _ _ _ _ _ (v .annotations-so-far) l (rw (second .before .line8 .ensures) at (second .one-if2 .ensures));
-      related-so-far = gather-more _ _ _ _ _ (v .related-so-far) l (rw (third .before .before .depends-on-none .ensures) at (third .one-if3 .ensures));
-      memory-so-far = gather-more _ _ _ _ _ (v .memory-so-far) l (rw (c .before .memory .ensures) at (c .one-if4 .ensures));
+      memory-so-far = gather-more _ _ _ _ _ (v .memory-so-far) l (rw (c .before .memory .ensures) at (c .one-if3 .ensures));
     }
 
 returns : tie.Need-returns Inv-loop μ-loop
@@ -57,7 +50,7 @@ returns c =
       gather-end _ _ _ _ (v .fields-so-far) (omega arith),
       (
         gather-end _ _ _ _ (v .annotations-so-far) (omega arith),
-        (gather-end _ _ _ _ (v .related-so-far) (omega arith), gather-end _ _ _ _ (v .memory-so-far) (omega arith)),
+        gather-end _ _ _ _ (v .memory-so-far) (omega arith),
       ),
     )
 
@@ -71,8 +64,6 @@ mark-records-spec =
     (λ c. search needs)
     (λ c. search needs)
     (λ c. search needs)
-    (λ c κs. search needs)
-    (λ c κs. search needs)
     (λ c κs. search needs)
     (λ c κs. search needs)
     (λ c κs. search needs)

@@ -4,7 +4,7 @@ use native.Mathlib.Omega.{arith}
 use Rattle.refusals.specs.Lines.{Refused, firstLine, whole, record-of}
 use Rattle.refusals.specs.TableLines.{line9, line10, line11, recordLinesBy, recordLines}
 use Rattle.refusals.proofs.LineLaws.{whole-here, whole-next, none-here}
-use Rattle.table_lines.proofs.MarkedLaws.{none-next, marked-next, marked-here, marked-room, none-related, no-memory, some-memory}
+use Rattle.table_lines.proofs.MarkedLaws.{none-next, marked-next, marked-here, marked-room, no-memory, some-memory}
 use borrow.Author.Needs.{needs}
 use Rattle.table_lines.proofs.refuse_records.Statement.{statement}
 use Rattle.table_lines.proofs.refuse_records.Tie as tie
@@ -46,6 +46,9 @@ returns-2 c =
     marked-next _ _ _ (marked .mark-records .ensures .0) _ _ _ (past7 .if1 .left)
     (marked-here _ _ _ (marked .mark-records .ensures .1 .0) (marked .before .pre) _ _ _ (c .before .if2 .taken) (c .lowest-set2 .ensures))
 
+some-may-break-requires : tie.Need-some-may-break-requires
+some-may-break-requires c κs = search needs
+
 refuse-related-requires : tie.Need-refuse-related-requires
 refuse-related-requires c κs = search needs
 
@@ -69,20 +72,20 @@ returns-4 c =
     let past10 = c .before .before in
     let past = past10 .before .before in
     let marked = past .before .before .before .before in
-    let none = none-related _ _ (marked .mark-records .ensures .1 .1 .0) (past10 .if3 .left) in
+    let none = past10 .before .some-may-break .ensures (past10 .if3 .left) in
     past8 past _
     (none-next _ _ _ _ _ (none .0) (none-next _ _ _ _ _ (none .1)
-    (whole-here _ _ _ _ (no-memory _ _ (marked .mark-records .ensures .1 .1 .1) (c .if4 .taken)))))
+    (whole-here _ _ _ _ (no-memory _ _ (marked .mark-records .ensures .1 .1) (c .if4 .taken)))))
 
 returns-5 : tie.Need-returns-5
 returns-5 c =
     let past10 = c .before .before in
     let past = past10 .before .before in
     let marked = past .before .before .before .before in
-    let none = none-related _ _ (marked .mark-records .ensures .1 .1 .0) (past10 .if3 .left) in
+    let none = past10 .before .some-may-break .ensures (past10 .if3 .left) in
     past8 past _
     (none-next _ _ _ _ _ (none .0) (none-next _ _ _ _ _ (none .1)
-    (whole-next _ _ _ _ _ (some-memory _ _ (marked .mark-records .ensures .1 .1 .1) (c .if4 .left)) (none-here _))))
+    (whole-next _ _ _ _ _ (some-memory _ _ (marked .mark-records .ensures .1 .1) (c .if4 .left)) (none-here _))))
 
 pub refuse-records-spec : {M : Type 1} → statement M
 refuse-records-spec =
@@ -95,6 +98,7 @@ refuse-records-spec =
     lowest-set-requires-2
     fits8
     returns-2
+    some-may-break-requires
     refuse-related-requires
     returns-3
     returns-4
