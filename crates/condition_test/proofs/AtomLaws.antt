@@ -51,33 +51,35 @@ module _ (t : Table) (w : ℕ) (b : Bool) (q : eqb (kindOf w) returnsNode ≡ b)
 
 -- an atom, by its kind k and the code's number n
 module _ (facts : List (List ℕ)) (left gmo : List ℕ) (w k n : ℕ) (e : k ≡ kindOf w) (m : n ≡ w / 256 % capacity) where
-  pub atom-read : k ≡ returnsNode → (r v : ℕ) → ReadsBy facts left gmo n r → v ≡ valueOf w → HoldsBy facts left gmo w (eqb r v)
-  atom-read h r v f u t g s o c l a =
+  pub atom-read : k ≡ returnsNode → (r v d : ℕ) → ReadsBy facts left gmo n d r → v ≡ valueOf w →
+      HoldsBy facts left gmo w d (eqb r v)
+  atom-read h r v x f u t g s o c l a other o′ c′ b =
       let q : eqb (kindOf w) returnsNode ≡ true = eq-eqb (kindOf w) returnsNode (sym e ∙ h) in
       let k : (ltb (numberOf w) (t .count) && reads t (numberOf w)) ≡ true = sym (known-by t w true q) ∙ a in
       let j : numberOf w < t .count = ltb-true (numberOf w) (t .count) (and-l _ (reads t (numberOf w)) k) in
       let i : n ≡ numberOf w = m ∙ number-known w (omega (arith, g .table .small .events)) in
       let d : reads t n ≡ true = ap (reads t) i ∙ and-r (ltb (numberOf w) (t .count)) (reads t (numberOf w)) k in
-      ap₂ eqb (f t g s o c l (omega arith) d ∙ ap (returnedValue t gmo) i) u ∙ sym (holds-by t w true q gmo)
+      ap₂ eqb (f t g s o c l (omega arith) d other o′ c′ b ∙ ap (returnedValue t other) i) u
+      ∙ sym (holds-by t w true q other)
 
-  pub atom-end : (k ≡ returnsNode → ⊥) → (r v : ℕ) → EndsBy facts left gmo n r → v ≡ valueOf w →
-      HoldsBy facts left gmo w (eqb r v)
-  atom-end h r v f u t g s o c l a =
+  pub atom-end : (k ≡ returnsNode → ⊥) → (r v d : ℕ) → EndsBy facts left gmo n d r → v ≡ valueOf w →
+      HoldsBy facts left gmo w d (eqb r v)
+  atom-end h r v d f u t g s o c l a other o′ c′ b =
       let q : eqb (kindOf w) returnsNode ≡ false = ne-eqb (kindOf w) returnsNode (λ x. h (e ∙ x)) in
       let j : numberOf w < t .locations = ltb-true (numberOf w) (t .locations) (sym (known-by t w false q) ∙ a) in
       let i : n ≡ numberOf w = m ∙ number-known w (omega (arith, g .table .small .locations)) in
-      ap₂ eqb (f t g s o l (omega arith) ∙ ap (endValue t gmo) i) u ∙ sym (holds-by t w false q gmo)
+      ap₂ eqb (f t g s o c l (omega arith) other o′ c′ b ∙ ap (endValue t other) i) u ∙ sym (holds-by t w false q other)
 
 -- the bit behind a word of kind k
 module _ (facts : List (List ℕ)) (left gmo : List ℕ) (b : Bool) (w k : ℕ) (e : k ≡ kindOf w) where
-  pub turn-atom : k ≤ endsNode → (r : Bool) → HoldsBy facts left gmo w r → TurnsBy facts left gmo b w r
-  turn-atom h r f t g s o c l a =
+  pub turn-atom : k ≤ endsNode → (r : Bool) (d : ℕ) → HoldsBy facts left gmo w d r → TurnsBy facts left gmo b w d r
+  turn-atom h r d f t g s o c l a other o′ c′ m =
       let q : leb (kindOf w) endsNode ≡ true = le-leb (kindOf w) endsNode (omega arith) in
-      f t g s o c l (ap (λ (x : Bool). not x || knownAtom t w) (sym q) ∙ a)
-      ∙ sym (ap (λ (x : Bool). cond x (atomHolds t gmo w) (cond (eqb (kindOf w) notNode) (not b) b)) q)
+      f t g s o c l (ap (λ (x : Bool). not x || knownAtom t w) (sym q) ∙ a) other o′ c′ m
+      ∙ sym (ap (λ (x : Bool). cond x (atomHolds t other w) (cond (eqb (kindOf w) notNode) (not b) b)) q)
 
-  pub turn-not : endsNode < k → k ≡ notNode → TurnsBy facts left gmo b w (not b)
-  turn-not h i t g s o c l a = rw (lt-leb (kindOf w) endsNode (omega arith), eq-eqb (kindOf w) notNode (sym e ∙ i))
+  pub turn-not : endsNode < k → k ≡ notNode → TurnsBy facts left gmo b w 0 (not b)
+  turn-not h i t g s o c l a other o′ c′ m = rw (lt-leb (kindOf w) endsNode (omega arith), eq-eqb (kindOf w) notNode (sym e ∙ i))
 
-  pub turn-stays : endsNode < k → (k ≡ notNode → ⊥) → TurnsBy facts left gmo b w b
-  turn-stays h i t g s o c l a = rw (lt-leb (kindOf w) endsNode (omega arith), ne-eqb (kindOf w) notNode (λ q. i (e ∙ q)))
+  pub turn-stays : endsNode < k → (k ≡ notNode → ⊥) → TurnsBy facts left gmo b w 0 b
+  turn-stays h i t g s o c l a other o′ c′ m = rw (lt-leb (kindOf w) endsNode (omega arith), ne-eqb (kindOf w) notNode (λ q. i (e ∙ q)))

@@ -15,7 +15,7 @@ use Rattle.model.specs.Prefixes.{clean}
 use Rattle.fact_rows.specs.FactRows.{Facts}
 use Rattle.fact_rows.specs.ValueRows.{Values}
 use Rattle.order_test.specs.Testing.{Judges}
-use Rattle.condition_test.specs.Meeting.{Meets}
+use Rattle.condition_test.specs.Kept.{Keeps, Meets}
 use Rattle.condition_test.specs.Wanted.{Wants, Witnesses}
 
 append-some : (l : List ℕ) (x : ℕ) (m : List ℕ) → l ++ (x ∷ m) ≡ [] → ⊥
@@ -42,33 +42,41 @@ code-wanted t facts c f h v = go (code c) refl
 
 -- the test of a witness
 module _ (facts : List (List ℕ)) (words gmo : List ℕ) where
-  pub witness-stated : length words ≡ 0 → (r : Bool) → Judges facts gmo witness r → Witnesses facts words gmo r
+  pub witness-stated : length words ≡ 0 → (r : Bool) → Judges facts gmo witness r → (seen kept : List ℕ) →
+      Witnesses facts words gmo seen kept r seen kept
   unfolding witness
-  witness-stated e r h t outcome f w o k = go words e w
+  witness-stated e r h seen kept t outcome f w o k u = (go words e w, u)
     where
       go : (ws : List ℕ) → length ws ≡ 0 → Wants t facts ws outcome → r ≡ witnessFor t outcome gmo
       go [] e q = h t f o k ∙ ap (λ (x : List ℕ → Bool). witnessFor t x gmo) (sym q)
       go (v ∷ vs) e q = absurd (omega arith)
 
-  -- where there are words, the outcome is what they say
-  outcome-met : (length words ≡ 0 → ⊥) → (b : Bool) → Meets facts words gmo b → (t : Table) (outcome : List ℕ → Bool) →
-      Facts t facts → Wants t facts words outcome → isOrder t gmo ≡ true → clean t gmo ≡ true → b ≡ outcome gmo
-  outcome-met e b h t outcome f w o k = go words e w h
-    where
-      go : (ws : List ℕ) → (length ws ≡ 0 → ⊥) → Wants t facts ws outcome → Meets facts ws gmo b → b ≡ outcome gmo
-      go [] e q h = absurd (e refl)
-      go (v ∷ vs) e q h =
-          h t (q .condition) f (q .values) o k (q .coded) (q .fitting) (q .known)
-          ∙ ap (λ (x : List ℕ → Bool). x gmo) (sym (q .asked))
+  -- Where there are words, the outcome is what they say.
+  module _ (e : length words ≡ 0 → ⊥) (seen kept next after : List ℕ) (b : Bool)
+      (h : Meets facts words gmo seen kept b next after) where
+    outcome-met : (t : Table) (outcome : List ℕ → Bool) → Facts t facts → Wants t facts words outcome → isOrder t gmo ≡ true →
+        clean t gmo ≡ true → Keeps t words seen kept → (b ≡ outcome gmo) × Keeps t words next after
+    outcome-met t outcome f w o k u = go words e w h u
+      where
+        go : (ws : List ℕ) → (length ws ≡ 0 → ⊥) → Wants t facts ws outcome → Meets facts ws gmo seen kept b next after →
+            Keeps t ws seen kept → (b ≡ outcome gmo) × Keeps t ws next after
+        go [] e q h u = absurd (e refl)
+        go (v ∷ vs) e q h u =
+            let m = h t f (q .values) o k u in (
+              m .0 (q .condition) (q .coded) (q .fitting) (q .known) ∙ ap (λ (x : List ℕ → Bool). x gmo) (sym (q .asked)),
+              m .1,
+            )
 
-  module _ (e : length words ≡ 0 → ⊥) (b : Bool) (h : Meets facts words gmo b) where
-    pub witness-met : b ≡ true → (r : Bool) → Judges facts gmo lawful r → Witnesses facts words gmo r
+    pub witness-met : b ≡ true → (r : Bool) → Judges facts gmo lawful r → Witnesses facts words gmo seen kept r next after
     unfolding witnessFor
-    witness-met q r l t outcome f w o k =
-        l t f o k ∙ sym (and-true (lawful t gmo))
-        ∙ ap (λ (x : Bool). lawful t gmo && x) (sym q ∙ outcome-met e b h t outcome f w o k)
+    witness-met q r l t outcome f w o k u =
+        let m = outcome-met t outcome f w o k u in (
+          l t f o k ∙ sym (and-true (lawful t gmo)) ∙ ap (λ (x : Bool). lawful t gmo && x) (sym q ∙ m .0),
+          m .1,
+        )
 
-    pub witness-unmet : b ≡ false → Witnesses facts words gmo false
+    pub witness-unmet : b ≡ false → Witnesses facts words gmo seen kept false next after
     unfolding witnessFor
-    witness-unmet q t outcome f w o k =
-        sym (and-right (lawful t gmo) (outcome gmo) (sym (outcome-met e b h t outcome f w o k) ∙ q))
+    witness-unmet q t outcome f w o k u =
+        let m = outcome-met t outcome f w o k u in
+        (sym (and-right (lawful t gmo) (outcome gmo) (sym (m .0) ∙ q)), m .1)

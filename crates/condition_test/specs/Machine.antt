@@ -42,3 +42,7 @@ evaluated test (ends x v) = test false x v
 evaluated test (negated c) = not (evaluated test c)
 evaluated test (both l r) = evaluated test l && evaluated test r
 evaluated test (either l r) = evaluated test l || evaluated test r
+
+-- a word of a condition that only joins its atoms by `and`
+abbrev pub plainWord : ℕ → Bool
+plainWord w = leb (kindOf w) endsNode || eqb (kindOf w) andNode

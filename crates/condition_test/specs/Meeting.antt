@@ -1,19 +1,18 @@
 -- What the test of an order by words tells of every table that has these facts.
 use Prim.Native.Nat.{ℕ}
 use mathlib.Core.Path.{_≡_}
-use mathlib.Core.Bool.{Bool, true, false, cond, not, _&&_, _||_}
+use mathlib.Core.Bool.{Bool, true, cond, not, _&&_, _||_}
 use mathlib.Core.List.{List}
 use lib.Dec.{eqb, ltb, leb}
 use Rattle.table.specs.declared.Table.{Table}
 use Rattle.table.specs.Events.{reads}
-use Rattle.text_format.specs.Condition.{Condition, fits}
-use Rattle.condition_reader.specs.Words.{returnsNode, endsNode, code}
-use Rattle.model.specs.Following.{returnedValue, endValue, meets, namesUnknown}
+use Rattle.condition_reader.specs.Words.{returnsNode, endsNode}
+use Rattle.model.specs.Following.{returnedValue, endValue}
 use Rattle.model.specs.Witness.{isOrder}
 use Rattle.model.specs.Prefixes.{clean}
 use Rattle.fact_rows.specs.FactRows.{Facts}
 use Rattle.fact_rows.specs.ValueRows.{Values}
-use Rattle.order_values.specs.Following.{LeftOf}
+use Rattle.order_values.specs.Following.{LeftOf, Alike}
 use Rattle.condition_test.specs.Machine.{kindOf, numberOf, valueOf, bitBehind}
 
 -- an atom holds
@@ -30,20 +29,14 @@ knownAtom t w =
 abbrev pub knownWord : Table → ℕ → Bool
 knownWord t w = not (leb (kindOf w) endsNode) || knownAtom t w
 
--- r is the truth of the atom w, where left has what each write leaves
-abbrev pub HoldsBy : List (List ℕ) → List ℕ → List ℕ → ℕ → Bool → Type 0
-HoldsBy facts left gmo w r =
+-- r is the truth of the atom w, where left has what each write leaves, and the first d entries decide it
+abbrev pub HoldsBy : List (List ℕ) → List ℕ → List ℕ → ℕ → ℕ → Bool → Type 0
+HoldsBy facts left gmo w d r =
     (t : Table) → Facts t facts → Values t facts → isOrder t gmo ≡ true → clean t gmo ≡ true → LeftOf t gmo left →
-    knownAtom t w ≡ true → r ≡ atomHolds t gmo w
+    knownAtom t w ≡ true → Alike t gmo d (λ other. r ≡ atomHolds t other w)
 
--- r is the bit behind the word w
-abbrev pub TurnsBy : List (List ℕ) → List ℕ → List ℕ → Bool → ℕ → Bool → Type 0
-TurnsBy facts left gmo now w r =
+-- r is the bit behind the word w, and the first d entries decide it
+abbrev pub TurnsBy : List (List ℕ) → List ℕ → List ℕ → Bool → ℕ → ℕ → Bool → Type 0
+TurnsBy facts left gmo now w d r =
     (t : Table) → Facts t facts → Values t facts → isOrder t gmo ≡ true → clean t gmo ≡ true → LeftOf t gmo left →
-    knownWord t w ≡ true → r ≡ bitBehind (atomHolds t gmo) now w
-
--- r is the truth of the condition of the words
-abbrev pub Meets : List (List ℕ) → List ℕ → List ℕ → Bool → Type 0
-Meets facts words gmo r =
-    (t : Table) (c : Condition) → Facts t facts → Values t facts → isOrder t gmo ≡ true → clean t gmo ≡ true → words ≡ code c →
-    fits c ≡ true → namesUnknown t c ≡ false → r ≡ meets t c gmo
+    knownWord t w ≡ true → Alike t gmo d (λ other. r ≡ bitBehind (atomHolds t other) now w)

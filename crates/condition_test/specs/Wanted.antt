@@ -11,6 +11,7 @@ use Rattle.model.specs.Witness.{isOrder, witnessFor, statedOutcome}
 use Rattle.model.specs.Prefixes.{clean}
 use Rattle.fact_rows.specs.FactRows.{Facts}
 use Rattle.fact_rows.specs.ValueRows.{Values}
+use Rattle.condition_test.specs.Kept.{Keeps}
 
 -- the outcome is a condition, which the words are
 pub record Conditioned (t : Table) (facts : List (List ℕ)) (words : List ℕ) (outcome : List ℕ → Bool) : Type 0 where
@@ -26,8 +27,8 @@ abbrev pub Wants : Table → List (List ℕ) → List ℕ → (List ℕ → Bool
 Wants t facts [] outcome = outcome ≡ statedOutcome t
 Wants t facts (w ∷ ws) outcome = Conditioned t facts (w ∷ ws) outcome
 
--- r tells whether the clean order gmo is a witness of what is looked for
-abbrev pub Witnesses : List (List ℕ) → List ℕ → List ℕ → Bool → Type 0
-Witnesses facts words gmo r =
+-- r tells whether the clean order gmo is a witness of what is looked for, if kept was told of the order seen; after is told of next
+abbrev pub Witnesses : List (List ℕ) → (words gmo seen kept : List ℕ) → Bool → (next after : List ℕ) → Type 0
+Witnesses facts words gmo seen kept r next after =
     (t : Table) (outcome : List ℕ → Bool) → Facts t facts → Wants t facts words outcome → isOrder t gmo ≡ true →
-    clean t gmo ≡ true → r ≡ witnessFor t outcome gmo
+    clean t gmo ≡ true → Keeps t words seen kept → (r ≡ witnessFor t outcome gmo) × Keeps t words next after

@@ -2,3 +2,4 @@ pub mod WordLaws
 pub mod EndLaws
 pub mod AlongLaws
 pub mod ReadLaws
+pub mod AlikeLaws

@@ -79,7 +79,7 @@ module _ {t : Table} {facts : List (List ℕ)} (f : Facts t facts) (v : Values t
     wide : t .locations ≤ capacity
     wide = omega (arith, f .table .small .locations)
 
-    writer-bit : (w : ℕ) → w < t .count → bit (mask facts writerRow x) w ≡ (writes t w && eqb (location t w) x)
+    pub writer-bit : (w : ℕ) → w < t .count → bit (mask facts writerRow x) w ≡ (writes t w && eqb (location t w) x)
     writer-bit w h =
         ap (λ (r : List ℕ). bit (getD r x 0) w) (v .writers)
         ∙ ap (λ (m : ℕ). bit m w)
@@ -90,15 +90,20 @@ module _ {t : Table} {facts : List (List ℕ)} (f : Facts t facts) (v : Values t
     initial-is =
         ap (λ (r : List ℕ). getD r x 0) (v .initial) ∙ padded-at (initialValue t) capacity (t .locations) x wide l
 
+    -- it is told by the mask
+    pub last-writer : (p : List ℕ) → all (λ e. ltb e (t .count)) p ≡ true →
+        lastOr (bit (mask facts writerRow x)) initially p ≡ lastWrite t p x
+    last-writer p events =
+        last-same (λ e. ltb e (t .count)) (bit (mask facts writerRow x)) (λ w. writes t w && eqb (location t w) x) initially p
+        events (λ w h. writer-bit w (ltb-true w (t .count) h))
+
     -- The last of some events that write to it.
     module _ (p : List ℕ) (events : all (λ e. ltb e (t .count)) p ≡ true) (left : List ℕ) where
       last-is : lastLeft facts left p x ≡ leftOr left (initialValue t x) (lastWrite t p x)
       unfolding lastLeft
       last-is =
           ap (λ (d : ℕ). leftOr left d (lastOr (bit (mask facts writerRow x)) initially p)) initial-is
-          ∙ ap (leftOr left (initialValue t x))
-          (last-same (λ e. ltb e (t .count)) (bit (mask facts writerRow x)) (λ w. writes t w && eqb (location t w) x) initially p
-          events (λ w h. writer-bit w (ltb-true w (t .count) h)))
+          ∙ ap (leftOr left (initialValue t x)) (last-writer p events)
 
       inside : (w : ℕ) → has w p ≡ true → w < t .count
       inside w h = ltb-true w (t .count) (all-has (λ e. ltb e (t .count)) p w events h)

@@ -14,10 +14,15 @@ use masks::has;
 use operation::Operation;
 use operation::apply;
 use table::CAPACITY;
-ghost use Prim.Native.Nat.{_%_, _<_};
+ghost use Prim.Native.Nat.{_%_, _≤_, _<_};
 ghost use mathlib.Core.Path.{_≡_};
 ghost use lib.ListN.{take};
+ghost use Rattle.lists.proofs.LastLaws.{Behind};
+ghost use Rattle.masks.specs.Bit.{bit};
 ghost use Rattle.table.specs.Events.{capacity};
+ghost use Rattle.model.specs.Rules.{initially};
+ghost use Rattle.fact_rows.specs.FactRows.{mask};
+ghost use Rattle.fact_rows.specs.ValueRows.{writerRow};
 ghost use Rattle.order_test.specs.Testing.{Fitting};
 ghost use Rattle.order_values.specs.Following.{Leaves, ReadsBy, EndsBy};
 ghost use Rattle.order_values.specs.ByFacts.{lastLeft, writtenBy, leftBy};
@@ -41,16 +46,24 @@ fn place(word: u32) -> usize
     word as usize % CAPACITY
 }
 
-// What the last writer to location `x` among the first `len` entries leaves, or the initial write if there is none.
+// A value, and the number of first entries that decide it: it is the same in each clean order that begins with these.
+pub struct Told {
+    pub value: u32,
+    pub depth: usize,
+}
+
+// What the last writer to location `x` among the first `len` entries leaves, or the initial write if there is none. The entries
+// up to it decide that.
 fn last_left(
     facts: &[[u32; CAPACITY]; ROWS],
     left: &[u32; CAPACITY],
     order: &[u8; CAPACITY],
     len: usize,
     x: usize,
-) -> u32
+) -> Told
     requires { ⌜ Fitting (now order) len × (x < capacity) ⌝ }
-    ensures { λ r. ⌜ r ≡ lastLeft (now (facts .entry)) (now (left .entry)) (take len (now (order .entry))) x ⌝ }
+    ensures { λ r. ⌜ r .value ≡ lastLeft (now (facts .entry)) (now (left .entry)) (take len (now (order .entry))) x ⌝ }
+    ensures { λ r. ⌜ Behind (bit (mask (now (facts .entry)) writerRow x)) initially (now (order .entry)) len (r .depth) ⌝ }
 {
     let writers = facts[WRITERS][x];
     let mut i = len;
@@ -58,10 +71,16 @@ fn last_left(
         i -= 1;
         let w = order[i];
         if has(writers, w as u32) {
-            return left[w as usize];
+            return Told {
+                value: left[w as usize],
+                depth: i + 1,
+            };
         }
     }
-    facts[INITIAL][x]
+    Told {
+        value: facts[INITIAL][x],
+        depth: 0,
+    }
 }
 
 // What event `e` leaves, where the first `len` entries stand before it and `left` has what they leave.
@@ -80,8 +99,8 @@ fn left_by(
         return facts[WRITTEN][e as usize];
     }
     let x = place(facts[PLACES][e as usize]);
-    let value = last_left(facts, left, order, len, x);
-    written(action, value)
+    let told = last_left(facts, left, order, len, x);
+    written(action, told.value)
 }
 
 // What each write leaves, by the clean order at the front of the array. Where no event has an operation, that is what the lines
@@ -107,31 +126,49 @@ pub fn left_values(
     left
 }
 
-// The value that reader `e` returns. Of the entries behind it only its own writers count.
+// The value that reader `e` returns. Of the entries behind it only its own writers count; without such the entries up to it decide
+// the value, and where nothing writes its location none is asked.
 pub fn value_read(
     facts: &[[u32; CAPACITY]; ROWS],
     left: &[u32; CAPACITY],
     order: &[u8; CAPACITY],
     len: usize,
     e: u8,
-) -> u32
+) -> Told
     requires { ⌜ Fitting (now order) len × (e < capacity) ⌝ }
-    ensures { λ r. ⌜ ReadsBy (now (facts .entry)) (now (left .entry)) (take len (now (order .entry))) e r ⌝ }
+    ensures { λ r. ⌜ ReadsBy (now (facts .entry)) (now (left .entry)) (take len (now (order .entry))) e (r .depth) (r .value) ⌝ }
+    ensures { λ r. ⌜ r .depth ≤ capacity ⌝ }
 {
     let x = place(facts[PLACES][e as usize]);
+    if facts[WRITERS][x] == 0 {
+        return Told {
+            value: facts[INITIAL][x],
+            depth: 0,
+        };
+    }
     let own = facts[OWN][e as usize];
     let mut i = len;
     while 0 < i {
         i -= 1;
         let w = order[i];
         if w == e {
-            return last_left(facts, left, order, i, x);
+            let told = last_left(facts, left, order, i, x);
+            return Told {
+                value: told.value,
+                depth: i + 1,
+            };
         }
         if has(own, w as u32) {
-            return left[w as usize];
+            return Told {
+                value: left[w as usize],
+                depth: len,
+            };
         }
     }
-    facts[INITIAL][x]
+    Told {
+        value: facts[INITIAL][x],
+        depth: len,
+    }
 }
 
 // The value of location `x` at the end.
@@ -141,9 +178,10 @@ pub fn value_at_end(
     order: &[u8; CAPACITY],
     len: usize,
     x: u8,
-) -> u32
+) -> Told
     requires { ⌜ Fitting (now order) len × (x < capacity) ⌝ }
-    ensures { λ r. ⌜ EndsBy (now (facts .entry)) (now (left .entry)) (take len (now (order .entry))) x r ⌝ }
+    ensures { λ r. ⌜ EndsBy (now (facts .entry)) (now (left .entry)) (take len (now (order .entry))) x (r .depth) (r .value) ⌝ }
+    ensures { λ r. ⌜ r .depth ≤ capacity ⌝ }
 {
     last_left(facts, left, order, len, x as usize)
 }

@@ -27,6 +27,7 @@ use Rattle.model.specs.Witness.{isOrder, witnessFor}
 use Rattle.model.specs.Prefixes.{clean}
 use Rattle.model.proofs.PrefixLaws.{passing-listed, passing-ascending, clean-closed}
 use Rattle.order_facts.specs.Facts.{maskBy, good}
+use Rattle.condition_test.specs.Kept.{Keeps}
 use Rattle.condition_test.specs.Wanted.{Witnesses}
 use Rattle.successors.specs.CleanMasks.{slots, cleanBy}
 use Rattle.successors.specs.Waiting.{Prepared}
@@ -214,12 +215,13 @@ module _ {t : Table} {facts : List (List ℕ)} {outcome enters : List ℕ → Bo
           (λ y. reachable-passes enters (cleanBy preds mem) (next ++ (y ∷ [])) (whole-shut at some low q power m y))
 
       -- what is_witness tells of it
-      pub told-witness : {words : List ℕ} → Seeking t facts words outcome enters → (r : Bool) → last′ ≡ mem →
-          Witnesses facts words (take (keep + 1) stored) r → r ≡ witnessFor t outcome next
-      told-witness k r h j =
+      pub told-witness : {words : List ℕ} (seen kept seen′ kept′ : List ℕ) → Seeking t facts words outcome enters → (r : Bool) → last′ ≡ mem →
+          Witnesses facts words (take (keep + 1) stored) seen kept r seen′ kept′ → Keeps t words seen kept →
+          (r ≡ witnessFor t outcome next) × Keeps t words seen′ kept′
+      told-witness seen kept seen′ kept′ k r h j u =
           let s = next-stored at some low in
-          subst (λ (x : List ℕ). r ≡ witnessFor t outcome x) s
-          (j t outcome (w .known) (k .wanted) (ap (isOrder t) s ∙ told-order h) (ap (clean t) s ∙ next-is-clean))
+          let m = j t outcome (w .known) (k .wanted) (ap (isOrder t) s ∙ told-order h) (ap (clean t) s ∙ next-is-clean) u in
+          (subst (λ (x : List ℕ). r ≡ witnessFor t outcome x) s (m .0), m .1)
 
       -- it is entered
       pub told-on : {goods′ : List ℕ} {later′ : ℕ} → v < b → (last′ ≡ mem → ⊥) → enters next ≡ true → keep + 1 < length goods →

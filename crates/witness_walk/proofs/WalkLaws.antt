@@ -17,7 +17,10 @@ use Rattle.masks.proofs.WithinLaws.{bit-below}
 use Rattle.table.specs.declared.Table.{Table}
 use Rattle.table.specs.Events.{capacity}
 use Rattle.order_test.specs.Testing.{Fitting}
+use Rattle.condition_test.specs.Kept.{Starts, Keeps}
 use Rattle.condition_test.specs.Wanted.{Witnesses}
+use Rattle.condition_test.proofs.RunLaws.{starts-keeps}
+use Rattle.model.specs.Witness.{witnessFor}
 use Rattle.successors.specs.CleanMasks.{slots, limit, cleanBy}
 use Rattle.successors.specs.Waiting.{Prepared}
 use Rattle.ready_events.specs.Current.{Current}
@@ -37,7 +40,7 @@ noted-long false goods k m = length-set goods k m
 
 -- the walk began with keep₀ entries, the masks can₀ and later₀ and budget b, and stands behind keep entries, with v visited
 pub record Going (facts : List (List ℕ)) (words preds succs : List ℕ) (mem watched : ℕ) (order₀ goods₀ : List ℕ) (keep₀ can₀ later₀ b : ℕ)
-    (order goods : List ℕ) (keep placed can later last v : ℕ) : Type 0 where
+    (order goods seen kept : List ℕ) (keep placed can later last v : ℕ) : Type 0 where
   pub lowest : ℕ
   pub stands : Standing preds succs mem order keep placed can later lowest
   pub long : length goods ≡ slots
@@ -46,6 +49,10 @@ pub record Going (facts : List (List ℕ)) (words preds succs : List ℕ) (mem w
   pub told : (t : Table) (outcome enters : List ℕ → Bool) → Watching t facts preds mem watched enters →
       Seeking t facts words outcome enters → Begun t enters watched order₀ goods₀ keep₀ can₀ later₀ →
       Told t outcome enters preds mem watched (take keep₀ order₀) b order goods keep later lowest last v
+  -- what is kept of the test of the order seen last
+  pub sighted : length seen ≡ capacity
+  pub keeps : (t : Table) (outcome enters : List ℕ → Bool) → Watching t facts preds mem watched enters →
+      Seeking t facts words outcome enters → Begun t enters watched order₀ goods₀ keep₀ can₀ later₀ → Keeps t words seen kept
 
 -- what a walk answers, of every such table; its prefix stands at the front of the order, and has at most the memory events
 abbrev pub Answers : List (List ℕ) → (words preds : List ℕ) → ℕ → ℕ → List ℕ → List ℕ → ℕ → ℕ → ℕ → ℕ → Ending → List ℕ → Type 0
@@ -54,20 +61,23 @@ Answers facts words preds mem watched order₀ goods₀ keep₀ can₀ later₀ 
     Begun t enters watched order₀ goods₀ keep₀ can₀ later₀ → answerOf o order ≡ searchFrom t outcome enters (take keep₀ order₀) b 0)
     × ((length order ≡ slots) × AtMost (ones mem) o)
 
-pub going-start : {facts : List (List ℕ)} {words preds succs order goods : List ℕ} {mem watched keep placed can later : ℕ} (b : ℕ) →
+pub going-start : {facts : List (List ℕ)} {words preds succs order goods seen kept : List ℕ} {mem watched keep placed can later : ℕ} (b : ℕ) →
     Prepared preds succs mem → Holds preds mem order keep placed can → (later ≡ can) ⊎ (later ≡ 0) → length goods ≡ slots →
-    Going facts words preds succs mem watched order goods keep can later b order goods keep placed can later placed 0
-going-start {preds = preds} {order = order} {mem = mem} {keep = keep} b tables state c long = record {
+    length seen ≡ capacity → Starts words kept →
+    Going facts words preds succs mem watched order goods keep can later b order goods seen kept keep placed can later placed 0
+going-start {words = words} {preds = preds} {order = order} {seen = seen} {kept = kept} {mem = mem} {keep = keep} b tables state c long room fresh = record {
   lowest = startFrom tables state c;
   stands = stand-start tables state c;
   long = long;
   few = omega (arith, ap ones (state .mask), clean-ones preds mem (take keep order) (state .clean), clean-short preds mem (take keep order) (state .clean));
   spare = omega arith;
   told = λ t outcome enters w k g. told-start tables state c b w g;
+  sighted = room;
+  keeps = λ t outcome enters w k g. starts-keeps t words seen kept fresh;
 }
 
-module _ {facts : List (List ℕ)} {words preds succs order₀ goods₀ order goods : List ℕ} {mem watched keep₀ can₀ later₀ b keep placed can later last v : ℕ}
-    (g : Going facts words preds succs mem watched order₀ goods₀ keep₀ can₀ later₀ b order goods keep placed can later last v) where
+module _ {facts : List (List ℕ)} {words preds succs order₀ goods₀ order goods seen kept : List ℕ} {mem watched keep₀ can₀ later₀ b keep placed can later last v : ℕ}
+    (g : Going facts words preds succs mem watched order₀ goods₀ keep₀ can₀ later₀ b order goods seen kept keep placed can later last v) where
   abbrev at : Standing preds succs mem order keep placed can later (g .lowest)
   at = g .stands
 
@@ -80,7 +90,7 @@ module _ {facts : List (List ℕ)} {words preds succs order₀ goods₀ order go
 
   pub going-back : {m e placed′ can′ later′ : ℕ} → later ≡ 0 → keep ≡ suc m → e ≡ getD order m 0 → placed′ ≡ bitXor placed (2 ^ e) →
       can′ ≡ bitOr (bitXor can (bitAnd can (getD succs e 0))) (2 ^ e) → later′ ≡ can′ / 2 ^ (e + 1) * 2 ^ (e + 1) →
-      Going facts words preds succs mem watched order₀ goods₀ keep₀ can₀ later₀ b order goods m placed′ can′ later′ last v
+      Going facts words preds succs mem watched order₀ goods₀ keep₀ can₀ later₀ b order goods seen kept m placed′ can′ later′ last v
   going-back {e = e} z k q p c l = record {
     lowest = e + 1;
     stands = stand-back at k q p c l;
@@ -88,6 +98,8 @@ module _ {facts : List (List ℕ)} {words preds succs order₀ goods₀ order go
     few = g .few;
     spare = g .spare;
     told = λ t outcome enters w f s. told-back w at (g .told t outcome enters w f s) z k q;
+    sighted = g .sighted;
+    keeps = g .keeps;
   }
 
   -- e is the lowest event that is left to try.
@@ -115,49 +127,63 @@ module _ {facts : List (List ℕ)} {words preds succs order₀ goods₀ order go
       }
 
       -- it is a witness
-      pub going-found : (r : Bool) → last′ ≡ mem → Witnesses facts words (take (keep + 1) stored) r → r ≡ true →
-          (o : Ending) → o ≡ Found (ones last′) (v + 1) → Answer o stored
-      going-found r m j h o i = subst (λ (x : Ending). Answer x stored) (sym i) (
+      pub going-found : (r : Bool) (seen′ kept′ : List ℕ) → last′ ≡ mem →
+          Witnesses facts words (take (keep + 1) stored) seen kept r seen′ kept′ → r ≡ true → (o : Ending) → o ≡ Found (ones last′) (v + 1) → Answer o stored
+      going-found r seen′ kept′ m j h o i = subst (λ (x : Ending). Answer x stored) (sym i) (
         λ t outcome enters w k s. sym (told-found w at (g .told t outcome enters w k s) some low q power below
-            (sym (told-witness w at (g .told t outcome enters w k s) some low q power k r m j) ∙ h)),
+            (sym (told-witness w at (g .told t outcome enters w k s) some low q power seen kept seen′ kept′ k r m j (g .keeps t outcome enters w k s) .0) ∙ h)),
         (length-set order keep e ∙ at .holds .long, next-few at some low q power),
       )
 
       -- it is passed over: the events past it are left to try
       module _ {later′ : ℕ} (next : later′ ≡ bitXor later c) where
-        abbrev Past : Type 0
-        Past = Going facts words preds succs mem watched order₀ goods₀ keep₀ can₀ later₀ b stored goods keep placed can later′ last′ (v + 1)
+        abbrev Past : (seen kept : List ℕ) → Type 0
+        Past seen kept =
+            Going facts words preds succs mem watched order₀ goods₀ keep₀ can₀ later₀ b stored goods seen kept keep placed can later′ last′ (v + 1)
 
-        past : ((t : Table) (outcome enters : List ℕ → Bool) → Watching t facts preds mem watched enters →
+        past : (seen′ kept′ : List ℕ) → ((t : Table) (outcome enters : List ℕ → Bool) → Watching t facts preds mem watched enters →
             Seeking t facts words outcome enters → Begun t enters watched order₀ goods₀ keep₀ can₀ later₀ →
-            Told t outcome enters preds mem watched (take keep₀ order₀) b stored goods keep later′ (e + 1) last′ (v + 1)) → Past
-        past f = record {
+            Told t outcome enters preds mem watched (take keep₀ order₀) b stored goods keep later′ (e + 1) last′ (v + 1)) → length seen′ ≡ capacity →
+            ((t : Table) (outcome enters : List ℕ → Bool) → Watching t facts preds mem watched enters →
+            Seeking t facts words outcome enters → Begun t enters watched order₀ goods₀ keep₀ can₀ later₀ → Keeps t words seen′ kept′) →
+            Past seen′ kept′
+        past seen′ kept′ f room h = record {
           lowest = e + 1;
           stands = stand-past at some low (next ∙ ap (bitXor later) power);
           long = g .long;
           few = next-few at some low q power;
           spare = omega (arith, below);
           told = f;
+          sighted = room;
+          keeps = h;
         }
 
         -- since it isn't entered
-        pub going-past : (r : Bool) → EntersBy (bit watched e) facts placed (getD goods keep 0) e r → r ≡ false → Past
-        going-past r h n = past (λ t outcome enters w k s.
+        pub going-past : (r : Bool) → EntersBy (bit watched e) facts placed (getD goods keep 0) e r → r ≡ false → Past seen kept
+        going-past r h n = past seen kept (λ t outcome enters w k s.
             told-past w at (g .told t outcome enters w k s) some low q power k below
-            (sym (told-enters w at (g .told t outcome enters w k s) some low r h) ∙ n))
+            (sym (told-enters w at (g .told t outcome enters w k s) some low r h) ∙ n)) (g .sighted) (g .keeps)
 
         -- since it is whole, and no witness
-        pub going-whole : (r : Bool) → last′ ≡ mem → Witnesses facts words (take (keep + 1) stored) r → r ≡ false → Past
-        going-whole r m j n = past (λ t outcome enters w k s.
-            told-whole w at (g .told t outcome enters w k s) some low q power below m
-            (sym (told-witness w at (g .told t outcome enters w k s) some low q power k r m j) ∙ n))
+        pub going-whole : (r : Bool) (seen′ kept′ : List ℕ) → last′ ≡ mem →
+            Witnesses facts words (take (keep + 1) stored) seen kept r seen′ kept′ → r ≡ false → length seen′ ≡ capacity →
+            Past seen′ kept′
+        going-whole r seen′ kept′ m j n room = past seen′ kept′
+            (λ t outcome enters w k s. told-whole w at (g .told t outcome enters w k s) some low q power below m (sym (test t outcome enters w k s .0) ∙ n))
+            room (λ t outcome enters w k s. test t outcome enters w k s .1)
+          where
+            test : (t : Table) (outcome enters : List ℕ → Bool) → Watching t facts preds mem watched enters →
+                Seeking t facts words outcome enters → Begun t enters watched order₀ goods₀ keep₀ can₀ later₀ →
+                (r ≡ witnessFor t outcome (take keep order ++ (e ∷ []))) × Keeps t words seen′ kept′
+            test t outcome enters w k s =
+                told-witness w at (g .told t outcome enters w k s) some low q power seen kept seen′ kept′ k r m j (g .keeps t outcome enters w k s)
 
       -- it is entered
       pub going-on : {goods′ : List ℕ} {placed′ can′ : ℕ} (r : Bool) → EntersBy (bit watched e) facts placed (getD goods keep 0) e r →
           r ≡ true → (last′ ≡ mem → ⊥) →
           goods′ ≡ cond (eqb watched 0) goods (set goods (keep + 1) (goodBehind facts (getD goods keep 0) e)) →
           placed′ ≡ bitOr placed (2 ^ e) → Current preds mem placed′ can′ →
-          Going facts words preds succs mem watched order₀ goods₀ keep₀ can₀ later₀ b stored goods′ (keep + 1) placed′ can′ can′ last′ (v + 1)
+          Going facts words preds succs mem watched order₀ goods₀ keep₀ can₀ later₀ b stored goods′ seen kept (keep + 1) placed′ can′ can′ last′ (v + 1)
       going-on {goods′} r h n m s p u = record {
         lowest = 0;
         stands = stand-on at some low p u;
@@ -166,4 +192,6 @@ module _ {facts : List (List ℕ)} {words preds succs order₀ goods₀ order go
         spare = omega (arith, below);
         told = λ t outcome enters w k i. told-on w at (g .told t outcome enters w k i) some low q power below m
             (sym (told-enters w at (g .told t outcome enters w k i) some low r h) ∙ n) (omega (arith, g .long, next-room at some low q power)) s;
+        sighted = g .sighted;
+        keeps = g .keeps;
       }

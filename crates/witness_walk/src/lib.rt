@@ -150,6 +150,8 @@ pub fn walk(
     let mut later = from.later;
     let mut last = masks.placed;
     let mut visited: u64 = 0;
+    let mut seen = [0u8; SLOTS];
+    let mut kept = condition_test::first(words);
     loop {
         if later == 0 {
             if keep == 0 {
@@ -174,7 +176,7 @@ pub fn walk(
             continue;
         }
         if last == mem {
-            if condition_test::is_witness(facts, words, &*order, keep + 1) {
+            if condition_test::is_witness(facts, words, &*order, keep + 1, &mut seen, &mut kept) {
                 return found(last, visited);
             }
             continue;

@@ -6,23 +6,33 @@ use Rattle.condition_test.proofs.is_witness.Tie as tie
 
 returns : tie.Need-returns
 returns c =
-    let a = c .before .before .before .args in
-    witness-stated (a .facts .now) (a .words .now) (take (a .len) (a .order .now)) (c .before .if1 .taken) _
-    (c .is-witness .ensures)
+    let s = c .before .before .before in
+    let a = s .args in (
+      witness-stated (a .facts .now) (a .words .now) (take (a .len) (a .order .now)) (c .before .if1 .taken) _
+          (c .is-witness .ensures) (a .seen .now) (a .kept .now),
+      s .pre .1,
+    )
 
 returns-2 : tie.Need-returns-2
 returns-2 c =
-    let b3 = c .before .before .before in
-    let a = b3 .before .before .args in
-    witness-met (a .facts .now) (a .words .now) (take (a .len) (a .order .now)) (b3 .if1 .left) _
-    (c .before .before .meets .ensures) (c .before .if2 .taken) _ (c .is-lawful .ensures)
+    let m = c .before .before in
+    let b3 = m .before .before .before in
+    let a = b3 .before .before .args in (
+      witness-met (a .facts .now) (a .words .now) (take (a .len) (a .order .now)) (b3 .if1 .left) (a .seen .now) (a .kept .now)
+          (m .meets .last .1 .1 .1 .1 .0) (m .meets .last .1 .1 .1 .1 .1 .0) _ (m .meets .ensures .0) (c .before .if2 .taken) _
+          (c .is-lawful .ensures),
+      m .meets .ensures .1,
+    )
 
 returns-3 : tie.Need-returns-3
 returns-3 c =
-    let b2 = c .before .before in
-    let a = b2 .before .before .args in
-    witness-unmet (a .facts .now) (a .words .now) (take (a .len) (a .order .now)) (b2 .if1 .left) _ (c .before .meets .ensures)
-    (c .if2 .left)
+    let m = c .before in
+    let b3 = m .before .before .before in
+    let a = b3 .before .before .args in (
+      witness-unmet (a .facts .now) (a .words .now) (take (a .len) (a .order .now)) (b3 .if1 .left) (a .seen .now) (a .kept .now)
+          (m .meets .last .1 .1 .1 .1 .0) (m .meets .last .1 .1 .1 .1 .1 .0) _ (m .meets .ensures .0) (c .if2 .left),
+      m .meets .ensures .1,
+    )
 
 pub is-witness-spec : {M : Type 1} → statement M
 is-witness-spec =

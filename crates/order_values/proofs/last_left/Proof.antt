@@ -1,4 +1,4 @@
-use mathlib.Core.Path.{sym, _∙_}
+use mathlib.Core.Path.{sym, subst, _∙_}
 use lib.ListN.{getD}
 use Rattle.lists.proofs.LastLaws.{behind-more}
 use Rattle.table.specs.Events.{capacity}
@@ -31,22 +31,26 @@ cast-has c = omega (arith, room c)
 has-requires : tie.Need-has-requires Inv-loop μ-loop
 has-requires c κs = room c
 
-cast-result : tie.Need-cast-result Inv-loop μ-loop
-cast-result c = omega (arith, room (c .before .before))
+cast-t21 : tie.Need-cast-t21 Inv-loop μ-loop
+cast-t21 c = omega (arith, room (c .before .before))
 
-mul-result : tie.Need-mul-result Inv-loop μ-loop
-mul-result c = record { fits = omega (arith, room (c .before .before)) }
+mul-t22 : tie.Need-mul-t22 Inv-loop μ-loop
+mul-t22 c = record { fits = omega (arith, room (c .before .before)) }
 
-element-copy-out-result : tie.Need-element-copy-out-result Inv-loop μ-loop
-element-copy-out-result c = room (c .before .before)
+element-copy-out-t25 : tie.Need-element-copy-out-t25 Inv-loop μ-loop
+element-copy-out-t25 c = room (c .before .before)
 
 returns : tie.Need-returns Inv-loop μ-loop
 returns c =
     let d = c .before in
     let k = d .before .before in
     let start = k .before .before .before .before in
-    end-hit _ _ _ _ _ (start .pre .0) _ (k .before .before .loop .inv) (k .before .loop-test .taken)
-    (sym (d .before .has .ensures) ∙ d .if1 .taken)
+    let v = k .before .before .loop in (
+      end-hit _ _ _ _ _ (start .pre .0) _ (v .inv) (k .before .loop-test .taken)
+          (sym (d .before .has .ensures) ∙ d .if1 .taken),
+      subst (Unwritten (start .args .facts .now) (start .args .left .now) (start .args .order .now) (start .args .len) (start .args .x))
+          (omega (arith, k .before .loop-test .taken)) (v .inv),
+    )
 
 loop-again : tie.Need-loop-again Inv-loop μ-loop
 loop-again c =
@@ -56,7 +60,13 @@ loop-again c =
     (k .before .loop-test .taken) (sym (c .before .has .ensures) ∙ c .if1 .left)
 
 returns-2 : tie.Need-returns-2 Inv-loop μ-loop
-returns-2 c = end-none _ _ _ _ _ _ (c .before .before .loop .inv) (omega arith)
+returns-2 c =
+    let start = c .before .before .before .before in
+    let v = c .before .before .loop in (
+      end-none _ _ _ _ _ _ (v .inv) (omega arith),
+      subst (Unwritten (start .args .facts .now) (start .args .left .now) (start .args .order .now) (start .args .len) (start .args .x))
+          (omega arith) (v .inv),
+    )
 
 pub last-left-spec : {M : Type 1} → statement M
 last-left-spec =
@@ -72,9 +82,10 @@ last-left-spec =
     (λ c. search needs)
     cast-has
     has-requires
-    cast-result
-    mul-result
-    element-copy-out-result
+    cast-t21
+    mul-t22
+    element-copy-out-t25
+    (λ c. search needs)
     returns
     (λ c. search needs)
     loop-again

@@ -9,7 +9,7 @@ returns c = by-plain _ _ _ _ (c .before .if1 .taken)
 returns-2 : tie.Need-returns-2
 returns-2 c =
     let placed = c .before .before in
-    by-operation _ _ _ _ (placed .before .before .if1 .left) _ _ _ (placed .place .ensures .0) (c .before .last-left .ensures)
+    by-operation _ _ _ _ (placed .before .before .if1 .left) _ _ _ (placed .place .ensures .0) (c .before .last-left .ensures .0)
     (c .written .ensures)
 
 pub left-by-spec : {M : Type 1} → statement M

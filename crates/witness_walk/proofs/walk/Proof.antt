@@ -13,11 +13,11 @@ use Rattle.witness_walk.proofs.walk.Statement.{statement}
 use Rattle.witness_walk.proofs.walk.Tie as tie
 
 abbrev Inv-loop : tie.InvT-loop
-Inv-loop facts words pred succ mem watched order₀ goods₀ budget keep₀ masks₀ later₀ last₀ visited₀ order goods keep masks later last visited =
-    Going facts words pred succ mem watched order₀ goods₀ keep₀ (masks₀ .can) later₀ budget order goods keep (masks .placed) (masks .can) later last visited
+Inv-loop facts words pred succ mem watched order₀ goods₀ budget keep₀ masks₀ later₀ last₀ visited₀ seen₀ kept₀ order goods keep masks later last visited seen kept =
+    Going facts words pred succ mem watched order₀ goods₀ keep₀ (masks₀ .can) later₀ budget order goods seen kept keep (masks .placed) (masks .can) later last visited
 
 abbrev μ-loop : tie.MeasureT-loop
-μ-loop facts words pred succ mem watched order₀ goods₀ budget keep₀ masks₀ later₀ last₀ visited₀ order goods keep masks later last visited =
+μ-loop facts words pred succ mem watched order₀ goods₀ budget keep₀ masks₀ later₀ last₀ visited₀ seen₀ kept₀ order goods keep masks later last visited seen kept =
     (budget - visited) * 64 + keep
 
 -- the last entry is an event
@@ -28,9 +28,9 @@ last-event c = stand-last (c .before .before .loop .inv .stands) (omega arith) r
 -- What is known once the next event is chosen.
 module _ (d : tie.After-lowest-set Inv-loop μ-loop) where
   inv : let v = d .before .before .before .loop in
-      let a = d .before .before .before .before .before .before .args in
+      let a = d .before .before .before .before .before .before .before .args in
       Going (a .facts .now) (a .words .now) (a .pred .now) (a .succ .now) (a .mem) (a .watched) (a .order .now) (a .goods .now) (a .from .keep)
-      (a .from .masks .can) (a .from .later) (a .budget) (v .order) (v .goods) (v .keep) (v .masks .placed) (v .masks .can) (v .later)
+      (a .from .masks .can) (a .from .later) (a .budget) (v .order) (v .goods) (v .seen) (v .kept) (v .keep) (v .masks .placed) (v .masks .can) (v .later)
       (v .last) (v .visited)
   inv = d .before .before .before .loop .inv
 
@@ -40,7 +40,7 @@ module _ (d : tie.After-lowest-set Inv-loop μ-loop) where
   low : d .lowest-set .result ≡ trailingZeros slots (d .before .before .before .loop .later)
   low = d .lowest-set .ensures
 
-  left : d .before .before .before .loop .visited ≡ d .before .before .before .before .before .before .args .budget → ⊥
+  left : d .before .before .before .loop .visited ≡ d .before .before .before .before .before .before .before .args .budget → ⊥
   left = d .before .if3 .left
 
   -- it is one of the events
@@ -48,7 +48,9 @@ module _ (d : tie.After-lowest-set Inv-loop μ-loop) where
   event = lowest-below (inv .stands) some low
 
 loop-holds : tie.Need-loop-holds Inv-loop μ-loop
-loop-holds c = let a = c .before .before in going-start _ (a .pre .0 .0) (a .pre .0 .1) (a .pre .1 .0) (a .pre .1 .1)
+loop-holds c =
+    let a = c .before .before .before in
+    going-start _ (a .pre .0 .0) (a .pre .0 .1) (a .pre .1 .0) (a .pre .1 .1) refl (c .first .ensures)
 
 returns : tie.Need-returns Inv-loop μ-loop
 returns c = going-none (c .before .before .loop .inv) (c .before .if1 .taken) (c .if2 .taken)
@@ -126,31 +128,33 @@ add-is-witness c = omega (arith, stand-room (inv (c .before .before .before .bef
 
 is-witness-requires : tie.Need-is-witness-requires Inv-loop μ-loop
 is-witness-requires c κs =
-    let o = c .before .before .before .before .before .before in
+    let o = c .before .before .before .before .before .before .before .before in
     let d = o .before in
-    going-fitting (inv d) (some d) (low d) (left d) refl (o .one .ensures)
+    (going-fitting (inv d) (some d) (low d) (left d) refl (o .one .ensures), inv d .sighted)
 
 found-requires : tie.Need-found-requires Inv-loop μ-loop
 found-requires c κs = search needs
 
 returns-3 : tie.Need-returns-3 Inv-loop μ-loop
 returns-3 c =
-    let w = c .before .before .before in
+    let t = c .before .before in
+    let w = t .before .before .before in
     let o = w .before .before .before .before .before .before in
     let d = o .before in
-    going-found (inv d) (some d) (low d) (left d) refl (o .one .ensures) _ (w .before .if5 .taken) (c .before .before .is-witness .ensures)
-    (c .before .if6 .taken) _ (c .found .ensures)
+    going-found (inv d) (some d) (low d) (left d) refl (o .one .ensures) _ (t .is-witness .last .1 .1 .1 .1 .0)
+    (t .is-witness .last .1 .1 .1 .1 .1 .0) (w .before .if5 .taken) (t .is-witness .ensures .0) (c .before .if6 .taken) _ (c .found .ensures)
 
 loop-less-3 : tie.Need-loop-less-3 Inv-loop μ-loop
 loop-less-3 c = search needs
 
 loop-again-3 : tie.Need-loop-again-3 Inv-loop μ-loop
 loop-again-3 c =
-    let w = c .before .before in
+    let t = c .before in
+    let w = t .before .before .before in
     let o = w .before .before .before .before .before .before in
     let d = o .before in
-    going-whole (inv d) (some d) (low d) (left d) refl (o .one .ensures) refl _ (w .before .if5 .taken) (c .before .is-witness .ensures)
-    (c .if6 .left)
+    going-whole (inv d) (some d) (low d) (left d) refl (o .one .ensures) refl _ (t .is-witness .last .1 .1 .1 .1 .0)
+    (t .is-witness .last .1 .1 .1 .1 .1 .0) (w .before .if5 .taken) (t .is-witness .ensures .0) (c .if6 .left) (t .is-witness .ensures .1)
 
 cast-note-good : tie.Need-cast-note-good Inv-loop μ-loop
 cast-note-good c = omega (arith, event (c .before .before .before .before .before .before .before))
@@ -187,6 +191,7 @@ walk-spec =
     (tie.spec
     Inv-loop
     μ-loop
+    (λ c κs. search needs)
     loop-holds
     returns
     sub-keep
