@@ -133,7 +133,7 @@ struct ct_table {
     uint16_t finals[CT_LOCATIONS];
 };
 
-/* Reads a test. Case 0: it is good. Case 1: refusal 1 to 11. */
+/* Reads a test. Case 0: it is good. Case 1: refusal 1 to 11 or 21. */
 uint64_t ct_read(const uint8_t *test, size_t test_len);
 
 /*
@@ -144,15 +144,15 @@ struct ct_table ct_table_of(const uint8_t *test, size_t test_len);
 
 /*
  * Writes the block of a table, of edition 1, to `out`, which has CT_BLOCK bytes. Any numbers may stand in the table. Case 1:
- * refusal 1 if `out` has another length, else 5 to 11, the numbers and records by which reading refuses; more than 16 events are
- * refused by 5. Case 0: written. Reading the block then gives case 0, and it is the only block of this table.
+ * refusal 1 if `out` has another length, else 5 to 11 or 21, the numbers and records by which reading refuses; more than 16
+ * events are refused by 5. Case 0: written. Reading the block then gives case 0, and it is the only block of this table.
  */
 uint64_t ct_write(struct ct_table table, uint8_t *out, size_t out_len);
 
 /*
  * The verdict for a candidate. `returned` has an entry for each event: the writer that a reader returns from,
  * CT_INITIALLY, or CT_NOTHING for an event that doesn't read. `order` is the global memory order: each memory event
- * once. Case 0: allowed. Case 1: refusal 1 to 14. Cases 2 to 6: the first axiom or stated value that is broken.
+ * once. Case 0: allowed. Case 1: refusal 1 to 14 or 21. Cases 2 to 6: the first axiom or stated value that is broken.
  */
 uint64_t ct_verdict(const uint8_t *test, size_t test_len, const uint8_t *returned, size_t returned_len,
                     const uint8_t *order, size_t order_len);
@@ -160,14 +160,14 @@ uint64_t ct_verdict(const uint8_t *test, size_t test_len, const uint8_t *returne
 /*
  * Every rule by which preserved program order puts event `a` before event `b`, with the returns given: any numbers, and
  * `returned` as for a candidate. Case 0: the set of these rules, which is empty unless both are memory events of the test
- * and `a` is earlier on the same hart. Case 1: refusal 1 to 12 or 14.
+ * and `a` is earlier on the same hart. Case 1: refusal 1 to 12, 14 or 21.
  */
 uint64_t ct_rules(const uint8_t *test, size_t test_len, const uint8_t *returned, size_t returned_len, uint64_t a,
                   uint64_t b);
 
 /*
  * Writes the returned list that an order determines to the front of `out`, which has room for an entry for each event
- * (CT_EVENTS is enough for any test); bytes past it stay. Case 0: written. Case 1: refusal 1 to 13 or 16.
+ * (CT_EVENTS is enough for any test); bytes past it stay. Case 0: written. Case 1: refusal 1 to 13, 16 or 21.
  */
 uint64_t ct_returns(const uint8_t *test, size_t test_len, const uint8_t *order, size_t order_len, uint8_t *out,
                     size_t out_len);
@@ -178,7 +178,7 @@ uint64_t ct_returns(const uint8_t *test, size_t test_len, const uint8_t *order, 
  * `out` has room for each memory event (CT_EVENTS is enough for any test); bytes past what is written stay.
  *
  * Case 7, found: the order of the witness is written. Case 8, none left: nothing is written. Case 9, spent: the last
- * prefix visited is written. Case 1: refusal 1 to 11 or 15 to 17.
+ * prefix visited is written. Case 1: refusal 1 to 11, 15 to 17 or 21.
  */
 uint64_t ct_search(const uint8_t *test, size_t test_len, const uint8_t *start, size_t start_len, uint8_t *out,
                    size_t out_len, uint64_t allowance);
@@ -196,8 +196,8 @@ uint64_t ct_search_pruned(const uint8_t *test, size_t test_len, const uint8_t *s
                           size_t out_len, uint64_t allowance);
 
 /*
- * Reads a test as text, of up to CT_TEXT bytes. Case 0: it is good. Case 1: refusal 1, 5, 7 to 11, 19, 20 or 23. The text needn't
- * end in a zero byte, and one that does is refused there.
+ * Reads a test as text, of up to CT_TEXT bytes. Case 0: it is good. Case 1: refusal 1, 5, 7 to 11, 19 to 21 or 23. The text
+ * needn't end in a zero byte, and one that does is refused there.
  */
 uint64_t ct_read_text(const uint8_t *text, size_t text_len);
 

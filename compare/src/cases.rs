@@ -25,7 +25,7 @@ use oracle::walks::Given;
 pub type Round = fn(&mut Prng, &mut Comparison) -> Result<(), Box<Difference>>;
 
 /// As often as they shall come.
-const ROUNDS: [Round; 39] = [
+const ROUNDS: [Round; 41] = [
     candidates,
     candidates,
     candidates,
@@ -46,6 +46,7 @@ const ROUNDS: [Round; 39] = [
     damaged_table,
     damaged_table,
     fences_only,
+    unused_locations,
     random_bytes,
     suite,
     mixed_suite,
@@ -62,6 +63,7 @@ const ROUNDS: [Round; 39] = [
     damaged_texts,
     broken_lines,
     broken_lines,
+    unused_in_texts,
     deep_texts,
     long_texts,
     other_bytes,
@@ -385,6 +387,27 @@ fn fences_only(prng: &mut Prng, comparison: &mut Comparison) -> Result<(), Box<D
     let fences = any_fences(prng);
     let bytes = any_test(prng, &fences);
     every_entry(prng, &mut Calls { comparison, bytes }, &litmus::c1())
+}
+
+/// A table with locations that no event touches, of which some are stated.
+fn unused_locations(prng: &mut Prng, comparison: &mut Comparison) -> Result<(), Box<Difference>> {
+    let table = with_unused(prng);
+    let bytes = any_test(prng, &table);
+    every_entry(prng, &mut Calls { comparison, bytes }, &table)
+}
+
+/// Often with a location more than its events have. Each untouched one is stated or not.
+pub fn with_unused(prng: &mut Prng) -> Table {
+    let mut table = any_shape(prng);
+    table.locations = MAX_LOCATIONS.min(table.locations + prng.below(2));
+    for location in table.untouched().collect::<Vec<_>>() {
+        table.stated &= !(1 << location);
+        table.finals[location] = 0;
+        if !prng.one_in(3) {
+            table = table.with_final(location, prng.below(2) as u16);
+        }
+    }
+    table
 }
 
 pub fn any_fences(prng: &mut Prng) -> Table {

@@ -7,6 +7,7 @@ use oracle::layout::*;
 use oracle::raw::RawTable;
 use oracle::record::RawEvent;
 use oracle::stream::Stream;
+use oracle::table::{names_location, Event};
 use oracle::walks::Given;
 
 /// Takes smaller calls as long as one has the property. Each has fewer events, shorter lists, a smaller number or a
@@ -80,6 +81,7 @@ fn renumbered_byte(event: u8, k: usize) -> u8 {
 }
 
 fn without_event(edition: Edition, call: &Call, k: usize) -> Call {
+    let location = RawEvent::of_record(edition, &call.bytes[edition.record(k)]).location;
     let bytes = changed(&call.bytes, |test| {
         for record in k + 1..edition.max_events() {
             test.copy_within(edition.record(record), edition.record(record - 1).start);
@@ -89,6 +91,7 @@ fn without_event(edition: Edition, call: &Call, k: usize) -> Call {
         for record in 0..edition.max_events() {
             drop_bits(edition, &mut test[edition.record(record)], k);
         }
+        drop_unused(edition, test, location);
     });
     let list = |list: &[u8]| -> Vec<u8> {
         list.iter().filter(|&&event| usize::from(event) != k).map(|&event| renumbered_byte(event, k)).collect()
@@ -109,6 +112,28 @@ fn without_event(edition: Edition, call: &Call, k: usize) -> Call {
         entry @ (Entry::Write { .. } | Entry::Suite(_) | Entry::BothEngines { .. }) => entry,
     };
     Call { bytes, entry }
+}
+
+/// Takes a location out of a test if no memory event is left there and its final value isn't stated, for that is refused by 21.
+fn drop_unused(edition: Edition, test: &mut [u8], location: u8) {
+    let table = RawTable::of_test(edition, test);
+    let is_there = |event: &Event| event.is_memory() && event.location == usize::from(location);
+    let is_touched = table.events.iter().filter_map(RawEvent::typed).any(|event| is_there(&event));
+    let is_of_test = location < table.locations && usize::from(table.locations) <= MAX_LOCATIONS;
+    if is_touched || !is_of_test || table.locations == 1 || names_location(table.stated, location.into()) {
+        return;
+    }
+    test[LOCATIONS_AT] -= 1;
+    test[STATED_AT] = without_bit(table.stated.into(), location.into()) as u8;
+    for at in [initial_at, final_at] {
+        test.copy_within(at(usize::from(location) + 1)..at(MAX_LOCATIONS), at(location.into()));
+        test[at(MAX_LOCATIONS - 1)..at(MAX_LOCATIONS)].fill(0);
+    }
+    for (number, event) in table.events[..edition.max_events()].iter().enumerate() {
+        let lower = u8::from(event.location > location);
+        let event = RawEvent { location: event.location - lower, ..*event };
+        event.put(edition, &mut test[edition.record(number)]);
+    }
 }
 
 /// Takes bit k out of each mask of a record.

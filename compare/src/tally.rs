@@ -9,11 +9,11 @@ use std::collections::BTreeMap;
 use std::fmt;
 
 /// What a call that takes no text can be refused by.
-const REFUSALS: std::ops::RangeInclusive<u8> = 1..=18;
+const REFUSALS: [u8; 19] = [1, 2, 3, 4, 5, 6, 7, 8, 9, 10, 11, 12, 13, 14, 15, 16, 17, 18, 21];
 /// What a call on a text can be refused by.
-const TEXT_REFUSALS: [u8; 13] = [1, 5, 7, 8, 9, 10, 11, 15, 16, 17, 19, 20, 23];
+const TEXT_REFUSALS: [u8; 14] = [1, 5, 7, 8, 9, 10, 11, 15, 16, 17, 19, 20, 21, 23];
 /// What a table can be refused by.
-const TABLE_REFUSALS: [u8; 8] = [1, 5, 6, 7, 8, 9, 10, 11];
+const TABLE_REFUSALS: [u8; 9] = [1, 5, 6, 7, 8, 9, 10, 11, 21];
 const RULES: std::ops::RangeInclusive<u8> = 1..=13;
 
 const VERDICTS: [&str; 6] = ["allowed", "preserved order", "load value", "atomicity", "value read", "final value"];
@@ -107,7 +107,7 @@ impl Tally {
 
     /// What no call gave, though some call can.
     pub fn unmet(&self) -> Vec<String> {
-        let refusals = REFUSALS.filter(|n| !self.refusals.contains_key(n)).map(|n| format!("refusal {n}"));
+        let refusals = REFUSALS.iter().filter(|&n| !self.refusals.contains_key(n)).map(|n| format!("refusal {n}"));
         let of_texts = TEXT_REFUSALS.iter().filter(|&n| !self.text_refusals.contains_key(n));
         let of_texts = of_texts.map(|n| format!("refusal {n} of a text"));
         let rules = RULES.filter(|n| !self.rules.contains_key(n)).map(|n| format!("rule {n}"));

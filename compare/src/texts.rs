@@ -112,6 +112,21 @@ pub fn broken_lines(prng: &mut Prng, comparison: &mut Comparison) -> Result<(), 
     Ok(())
 }
 
+/// A text with locations that no event touches, of which the condition names some.
+pub fn unused_in_texts(prng: &mut Prng, comparison: &mut Comparison) -> Result<(), Box<Difference>> {
+    let table = with_unused(prng);
+    let text = text_of(&table);
+    for _ in 0..SOME_CALLS {
+        let mut text = text.clone();
+        if prng.one_in(2) {
+            text.condition = random_text(prng, &table).condition;
+        }
+        let bytes = text.to_string().into_bytes();
+        read_and_search(prng, &mut Calls { comparison: &mut *comparison, bytes }, &table)?;
+    }
+    Ok(())
+}
+
 /// What opens a level of a condition, and what closes it.
 const LEVELS: [(&str, &str); 4] = [("not ", ""), ("( ", " or x0=1 )"), ("( x0=0 and ", " )"), ("( x0=1 or ", " )")];
 

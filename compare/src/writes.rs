@@ -2,7 +2,7 @@
 //! length.
 
 use crate::call::{Call, Entry, Outcome, Reply};
-use crate::cases::{any_fences, any_shape, some_bytes, LONGEST_BYTES, SOME_CALLS};
+use crate::cases::{any_fences, any_shape, some_bytes, with_unused, LONGEST_BYTES, SOME_CALLS};
 use crate::comparison::{Comparison, Difference};
 use oracle::generate::prng::Prng;
 use oracle::layout::*;
@@ -13,7 +13,11 @@ use oracle::table::Kind;
 
 /// Writes one table, mostly damaged, to some buffers. What was written is read.
 pub fn writes(prng: &mut Prng, comparison: &mut Comparison) -> Result<(), Box<Difference>> {
-    let table = if prng.one_in(20) { any_fences(prng) } else { any_shape(prng) };
+    let table = match prng.below(20) {
+        0 => any_fences(prng),
+        1 => with_unused(prng),
+        _ => any_shape(prng),
+    };
     let table = RawTable::from(&table);
     for _ in 0..SOME_CALLS {
         let mut table = table.clone();

@@ -46,6 +46,18 @@ impl Condition {
             }
         }
     }
+
+    /// "a location named by `x`", wherever in the condition
+    pub fn names_end_of(&self, other: usize) -> bool {
+        match self {
+            Condition::Returns { .. } => false,
+            Condition::Ends { location, .. } => usize::from(*location) == other,
+            Condition::Not(inner) => inner.names_end_of(other),
+            Condition::And(left, right) | Condition::Or(left, right) => {
+                left.names_end_of(other) || right.names_end_of(other)
+            }
+        }
+    }
 }
 
 impl fmt::Display for Condition {

@@ -1,11 +1,13 @@
 //! A table as the writer is handed it: plain numbers, which can hold what the lines 5 to 11
-//! refuse; and writing one.
+//! and 21 refuse; and writing one.
 
 use crate::encode::encode;
 use crate::layout::*;
 use crate::record::RawEvent;
 use crate::stream::{Malformed, Stream};
-use crate::table::{fields_broken, names_location, refuse_if, refuse_table, Line, Refusal, Table};
+use crate::table::{
+    fields_broken, names_location, refuse_if, refuse_stating_table, Line, Refusal, Table,
+};
 
 /// How many events such a table has room for.
 pub const SLOTS: usize = 32;
@@ -119,13 +121,14 @@ fn take_values(stream: &mut Stream) -> Result<[u16; MAX_LOCATIONS], Malformed> {
 
 /// "from a table, the 512 bytes into a lent buffer. .. A table that reading would refuse by 5
 /// to 11 is refused by the same number; a buffer that isn't 512 bytes by 1; refusals leave the
-/// buffer alone." "The writer writes edition 1 only (more than 16 events is 5)".
+/// buffer alone." "The writer writes edition 1 only (more than 16 events is 5)". 21 is "checked after
+/// 11, .. and in the writer".
 pub fn write(raw: &RawTable, buffer: &mut [u8]) -> Result<(), Refusal> {
     refuse_if(buffer.len() != BLOCK_LENGTH, Line::Length)?;
     refuse_if(ranges_broken(raw), Line::Ranges)?;
     refuse_if(zeros_broken(raw), Line::Zeros)?;
     let table = typed(raw)?;
-    refuse_table(&table)?;
+    refuse_stating_table(&table)?;
     buffer.copy_from_slice(&encode(&table));
     Ok(())
 }

@@ -1,4 +1,4 @@
-//! A test read from its bytes, and the lines 1 to 11 by which reading refuses them.
+//! A test read from its bytes, and the lines 1 to 11 and 21 by which reading refuses them.
 
 use crate::layout::*;
 use crate::operation::Operation;
@@ -126,6 +126,14 @@ impl Table {
         (0..self.events.len()).filter(|&e| self.events[e].is_memory()).collect()
     }
 
+    /// The locations that "no memory event touches". The location byte of a fence is 0 and touches
+    /// nothing.
+    pub fn untouched(&self) -> impl Iterator<Item = usize> + '_ {
+        let touches =
+            |location: usize| move |event: &Event| event.is_memory() && event.location == location;
+        (0..self.locations).filter(move |&location| !self.events.iter().any(touches(location)))
+    }
+
     /// The LR that an SC is paired with: the SC's "nearest earlier LR or SC on its hart",
     /// if that is "an LR to the same location".
     pub fn paired_lr(&self, sc: usize) -> Option<usize> {
@@ -160,6 +168,7 @@ pub enum Line {
     Allowance = 17,
     Grammar = 19,
     Levels = 20,
+    UnusedLocation = 21,
     Names = 23,
 }
 
@@ -202,7 +211,7 @@ fn refuse_records(
 
 /// "Where the first 512 bytes are short or fail 2, 3 or 4, that is the answer; otherwise length is
 /// checked by edition before the later blocks." Then 5 to 11, of which "exactly the lowest number
-/// whose line holds is given".
+/// whose line holds is given", and 21, which is "checked after 11".
 pub fn read(test: &[u8]) -> Result<Table, Refusal> {
     let edition = stated_edition(test)?;
     refuse_if(test.len() != edition.test_length(), Line::Length)?;
@@ -210,7 +219,7 @@ pub fn read(test: &[u8]) -> Result<Table, Refusal> {
     refuse_if(ranges_broken(edition, test), Line::Ranges)?;
     refuse_if(zero_bytes(edition, test).any(|at| test[at] != 0), Line::Zeros)?;
     let table = decode(edition, test)?;
-    refuse_table(&table)?;
+    refuse_stating_table(&table)?;
     Ok(table)
 }
 
@@ -223,12 +232,23 @@ pub fn stated_edition(test: &[u8]) -> Result<Edition, Refusal> {
     edition.ok_or(Refusal { line: Line::Edition, record: None })
 }
 
+/// Lines 8 to 11 and 21, of a table that states final values by its mask.
+pub fn refuse_stating_table(table: &Table) -> Result<(), Refusal> {
+    refuse_table(table)?;
+    refuse_unused(table, |location| names_location(table.stated, location))
+}
+
 /// Lines 8 to 11.
 pub fn refuse_table(table: &Table) -> Result<(), Refusal> {
     refuse_records(table, Line::Annotations, annotations_broken)?;
     refuse_records(table, Line::Dependencies, dependencies_broken)?;
     refuse_records(table, Line::Pairing, pairing_broken)?;
     refuse_if(table.memory_events().is_empty(), Line::NoMemoryEvent)
+}
+
+/// 21: "a location no memory event touches and whose final value isn't stated"
+pub fn refuse_unused(table: &Table, is_stated: impl Fn(usize) -> bool) -> Result<(), Refusal> {
+    refuse_if(table.untouched().any(|location| !is_stated(location)), Line::UnusedLocation)
 }
 
 /// 5: "harts, locations or events out of range, or the final mask names a location not in

@@ -5,7 +5,9 @@ use crate::condition::Condition;
 use crate::layout::{Edition, MAX_HARTS, MAX_LOCATIONS};
 use crate::rules::is_lawful;
 use crate::search::{Answer, Engine, Prefixes};
-use crate::table::{form_broken, refuse_if, refuse_table, Event, Line, Refusal, Table};
+use crate::table::{
+    form_broken, refuse_if, refuse_table, refuse_unused, Event, Line, Refusal, Table,
+};
 use crate::text::{read_document, Breach, Document};
 use std::fmt;
 
@@ -56,13 +58,15 @@ impl fmt::Display for TextRefusal {
 }
 
 /// 19 and 20; "then 5 to 11 follow on the table .., and then 23: the condition names an event that
-/// doesn't read or a location not in the test".
+/// doesn't read or a location not in the test". 21 is checked "in texts after 23", "where a location
+/// named by `x` counts as stated".
 pub fn read_text(text: &[u8]) -> Result<TextTest, TextRefusal> {
     refuse_if(text.len() > MAX_LENGTH, Line::Length)?;
     let document = read_document(text)?;
     let table = table_of(&document)?;
     refuse_table(&table)?;
     refuse_if(document.condition.names_wrong(&table), Line::Names)?;
+    refuse_unused(&table, |location| document.condition.names_end_of(location))?;
     Ok(TextTest { table, condition: document.condition })
 }
 

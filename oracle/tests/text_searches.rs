@@ -41,7 +41,7 @@ fn the_stored_corner_texts() {
     for CornerText { what, text, start, room, allowance, answer } in &stored {
         assert_eq!(answered(text, start, *room, *allowance), *answer, "{what}");
     }
-    assert_eq!(stored.len(), 89);
+    assert_eq!(stored.len(), 94);
 }
 
 /// A search's answers from the empty start until none are left.

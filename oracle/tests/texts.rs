@@ -53,23 +53,28 @@ fn numbers_have_no_leading_zero_and_fit_their_field() {
 const LOAD: &str = "1 0 0 0 0 0 0 0 0 0 0";
 const STORE: &str = "2 0 0 0 0 0 0 0 1 0 0";
 
+/// A condition that names the first locations by `x`.
+fn ends(locations: usize) -> String {
+    (1..locations).fold("x0=0".to_string(), |all, l| format!("( {all} or x{l}=0 )"))
+}
+
 #[test]
 fn harts_and_locations_are_the_least_that_cover_fields_and_initial_values() {
-    let numbers = |lines: &str, initial: &str| {
-        let text = format!("{lines}\n\n{initial}\nr0=0\n");
+    let assert_numbers = |lines: &str, initial: &str, (harts, locations): (usize, usize)| {
+        let text = format!("{lines}\n\n{initial}\n{}\n", ends(locations));
         let table = read_text(text.as_bytes()).expect("no line refuses").table;
-        (table.harts, table.locations)
+        assert_eq!((table.harts, table.locations), (harts, locations));
     };
-    assert_eq!(numbers(LOAD, "0"), (1, 1));
-    assert_eq!(numbers(LOAD, "0 0 5"), (1, 3));
-    assert_eq!(numbers("1 3 2 0 0 0 0 0 0 0 0", "4"), (4, 3));
-    assert_eq!(numbers(&format!("{LOAD}\n6 2 0 15 0 0 0 0 0 0 0"), "0"), (3, 1));
-    assert_eq!(numbers("1 0 7 0 0 0 0 0 0 0 0", "0 0 0 0 0 0 0 9"), (1, 8));
+    assert_numbers(LOAD, "0", (1, 1));
+    assert_numbers(LOAD, "0 0 5", (1, 3));
+    assert_numbers("1 3 2 0 0 0 0 0 0 0 0", "4", (4, 3));
+    assert_numbers(&format!("{LOAD}\n6 2 0 15 0 0 0 0 0 0 0"), "0", (3, 1));
+    assert_numbers("1 0 7 0 0 0 0 0 0 0 0", "0 0 0 0 0 0 0 9", (1, 8));
 }
 
 #[test]
 fn initial_values_that_are_not_given_are_0() {
-    let text = "1 0 3 0 0 0 0 0 0 0 0\n\n7 65535\nr0=0\n";
+    let text = format!("1 0 3 0 0 0 0 0 0 0 0\n\n7 65535\n{}\n", ends(3));
     let table = read_text(text.as_bytes()).expect("no line refuses").table;
     assert_eq!(table.initial, [7, 65535, 0, 0, 0, 0, 0, 0]);
     assert_eq!((table.stated, table.finals), (0, [0; MAX_LOCATIONS]));
@@ -82,7 +87,7 @@ fn too_many_or_no_events_or_initial_values_are_5() {
     assert_eq!(refusal(&[STORE; 30], "0", "x0=0"), None);
     assert_eq!(refusal(&[STORE; 31], "0", "x0=0"), five);
     assert_eq!(refusal(&[STORE; 80], "0", "x0=0"), five);
-    assert_eq!(refusal(&[STORE], "0 0 0 0 0 0 0 0", "x0=0"), None);
+    assert_eq!(refusal(&[STORE], "0 0 0 0 0 0 0 0", &ends(8)), None);
     assert_eq!(refusal(&[STORE], "0 0 0 0 0 0 0 0 0", "x0=0"), five);
     assert_eq!(refusal(&[STORE], &["0"; 300].join(" "), "x0=0"), five);
 }
@@ -188,7 +193,8 @@ fn record_of(line: &RawEvent) -> RawEvent {
     RawEvent { written: applied.unwrap_or(line.written), ..*line }
 }
 
-/// A text of random fields, and the block of edition 2 that has them.
+/// A text of random fields, and the block of edition 2 that has them. The condition names one location,
+/// and the block states where it ends.
 fn random_pair(prng: &mut Prng) -> (String, Vec<u8>) {
     let count = if prng.one_in(20) { prng.below(SLOTS) } else { 1 + prng.below(4) };
     let lines: Vec<RawEvent> = (0..count).map(|_| random_fields(prng, count)).collect();
@@ -198,6 +204,7 @@ fn random_pair(prng: &mut Prng) -> (String, Vec<u8>) {
         harts: lines.iter().map(|line| line.hart + 1).max().unwrap_or(0),
         locations: locations.max(initial.len() as u8),
         count: count as u8,
+        stated: 1,
         ..RawTable::from(&table(Vec::new()))
     };
     block.initial[..initial.len()].copy_from_slice(&initial);
@@ -210,9 +217,9 @@ fn random_pair(prng: &mut Prng) -> (String, Vec<u8>) {
 }
 
 #[test]
-fn lines_5_to_11_are_those_of_a_block_of_edition_2() {
+fn lines_5_to_11_and_21_are_those_of_a_block_of_edition_2() {
     let mut prng = Prng::new(8);
-    let mut seen = [0; 12];
+    let mut seen = [0; 22];
     for _ in 0..40_000 {
         let (text, block) = random_pair(&mut prng);
         let of_block = read(&block).err();
@@ -220,5 +227,5 @@ fn lines_5_to_11_are_those_of_a_block_of_edition_2() {
         assert_eq!(of_text, of_block.map(TextRefusal::Declined), "{text}");
         seen[of_block.map_or(0, |refusal| refusal.line as usize)] += 1;
     }
-    assert!([0, 5, 7, 8, 9, 10, 11].iter().all(|&line| seen[line] > 100), "{seen:?}");
+    assert!([0, 5, 7, 8, 9, 10, 11, 21].iter().all(|&line| seen[line] > 100), "{seen:?}");
 }

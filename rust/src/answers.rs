@@ -172,7 +172,7 @@ mod tests {
 
     #[test]
     fn each_refusal_has_its_line() {
-        let numbers: Vec<u8> = (1..=20).chain([23]).collect();
+        let numbers: Vec<u8> = (1..=21).chain([23]).collect();
         let listed: Vec<u8> =
             REFUSALS.lines().map(|line| line.split_once('\t').expect("a tab").0.parse().expect("a number")).collect();
         assert_eq!(listed, numbers);

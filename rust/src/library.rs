@@ -122,7 +122,7 @@ fn rules_part(word: u64) -> Rules {
     Rules::of_bits(u16::from_le_bytes([low, high]))
 }
 
-/// Reads a test. It is refused by 1 to 11.
+/// Reads a test. It is refused by 1 to 11 and 21.
 ///
 /// ```
 /// let mut block = *include_bytes!(concat!(env!("CARGO_MANIFEST_DIR"), "/../samples/C1.block"));
@@ -146,7 +146,7 @@ pub(crate) fn table_of(test: &[u8]) -> Table {
 }
 
 /// Writes the block of a table to `out`, which has [`BLOCK`](crate::BLOCK) bytes. It is refused by 1 if `out` has another
-/// length, and by 5 to 11; a block is of edition 1, so more than 16 events are refused by 5.
+/// length, and by 5 to 11 and 21; a block is of edition 1, so more than 16 events are refused by 5.
 ///
 /// [`Table::block`] makes such a call.
 ///
@@ -166,7 +166,7 @@ pub fn write(table: &Table, out: &mut [u8]) -> Result<(), Refusal> {
 
 /// The verdict for a candidate: `order` has each memory event once, and `returned` an entry for each event, which is the
 /// writer that it returns from, [`INITIALLY`](crate::INITIALLY), or [`NOTHING`](crate::NOTHING) for an event that
-/// doesn't read. It is refused by 1 to 14.
+/// doesn't read. It is refused by 1 to 14 and 21.
 ///
 /// ```
 /// use cogthunder::{verdict, Axiom, Rules, Verdict, INITIALLY, NOTHING};
@@ -200,7 +200,7 @@ pub fn verdict(test: &[u8], returned: &[u8], order: &[u8]) -> Result<Verdict, Re
 
 /// Every rule by which preserved program order puts event `a` before event `b`, with the returns given: any numbers, and
 /// `returned` as for a candidate. The set is empty unless both are memory events of the test and `a` is earlier on the
-/// same hart. It is refused by 1 to 12 and 14.
+/// same hart. It is refused by 1 to 12, 14 and 21.
 ///
 /// ```
 /// use cogthunder::{rules, INITIALLY};
@@ -227,7 +227,7 @@ pub fn rules(test: &[u8], returned: &[u8], a: u64, b: u64) -> Result<Rules, Refu
 }
 
 /// Writes the returned list that an order determines to the front of `out`, an entry for each event; bytes past it stay.
-/// It is refused by 1 to 13 and 16.
+/// It is refused by 1 to 13, 16 and 21.
 ///
 /// ```
 /// use cogthunder::{returns, verdict, Verdict, EVENTS, INITIALLY, NOTHING};
@@ -249,7 +249,7 @@ pub fn returns(test: &[u8], order: &[u8], out: &mut [u8]) -> Result<(), Refusal>
 /// Searches the clean prefixes after `start`, ascending, for the next witness, and visits at most `allowance` of them.
 /// The order found, or the last prefix visited if the allowance is spent, is written to the front of `out`, which has
 /// room for each memory event ([`EVENTS`](crate::EVENTS) is enough); bytes past it stay. `start` is empty, or what an
-/// earlier call wrote. It is refused by 1 to 11 and 15 to 17.
+/// earlier call wrote. It is refused by 1 to 11, 15 to 17 and 21.
 ///
 /// [`Witnesses`](crate::Witnesses) makes such calls one after the other.
 ///
@@ -305,7 +305,7 @@ pub fn search_pruned(test: &[u8], start: &[u8], out: &mut [u8], allowance: u64) 
     searched(word)
 }
 
-/// Reads a test as text, and gives its table. It is refused by 1, 5, 7 to 11, 19, 20 and 23.
+/// Reads a test as text, and gives its table. It is refused by 1, 5, 7 to 11, 19 to 21 and 23.
 ///
 /// A text has a line for each event, with the fields of [`Event`] in their order; then a blank line, a line of initial
 /// values, and a line with the condition that is asked for. There `r2=1` says that event 2 returns 1, and `x0=2` that location
@@ -461,6 +461,24 @@ mod tests {
         assert_eq!(refusal(0x00ff_1301), Refusal { number: 19, record: None, place: Some(0) });
         assert_eq!(refusal(0x0800_00ff_1301), Refusal { number: 19, record: None, place: Some(2048) });
         assert_eq!(refusal(0x0123_00ff_1401), Refusal { number: 20, record: None, place: Some(0x123) });
+        assert_eq!(refusal(0x00ff_1501), Refusal { number: 21, record: None, place: None });
+    }
+
+    /// A load of location 0, and an initial value of location 1, which nothing touches.
+    #[test]
+    fn a_text_names_a_location_that_it_does_not_touch() {
+        let text = |condition: &str| format!("1 0 0 0 0 0 0 0 0 0 0\n\n0 7\n{condition}\n").into_bytes();
+        let unused = Refusal { number: 21, record: None, place: None };
+        for condition in ["r0=0", "x0=0"] {
+            let mut out = [9; 2];
+            assert_eq!(read_text(&text(condition)), Err(unused));
+            assert_eq!(search_text(&text(condition), &[5], &mut out, u64::MAX), Err(unused));
+            assert_eq!(out, [9; 2]);
+        }
+        for condition in ["x1=7", "not x1=8", "( r0=0 or x1=8 )"] {
+            let answer = search_text(&text(condition), &[], &mut [0], 1);
+            assert_eq!(answer, Ok(Answer::Found { len: 1, visited: 1 }));
+        }
     }
 
     #[test]

@@ -290,7 +290,7 @@ impl Table {
 
 /// A table and its test.
 impl Table {
-    /// The table of a test of either edition. It is refused by 1 to 11.
+    /// The table of a test of either edition. It is refused by 1 to 11 and 21.
     ///
     /// ```
     /// use cogthunder::{Operation, Table};
@@ -311,8 +311,8 @@ impl Table {
         Ok(table_of(test))
     }
 
-    /// The block of the table, of which there is only one; [`read`](crate::read) accepts it. It is refused by 5 to 11; a block
-    /// is of edition 1, so more than 16 events are refused by 5.
+    /// The block of the table, of which there is only one; [`read`](crate::read) accepts it. It is refused by 5 to 11 and 21; a
+    /// block is of edition 1, so more than 16 events are refused by 5.
     pub fn block(&self) -> Result<[u8; BLOCK], Refusal> {
         let mut block = [0; BLOCK];
         write(self, &mut block)?;
@@ -320,7 +320,7 @@ impl Table {
     }
 
     /// The test of the table, which [`read`](crate::read) accepts: its block, or where there are more than 16 events a test of
-    /// edition 2. It is refused by 5 to 11.
+    /// edition 2. It is refused by 5 to 11 and 21.
     ///
     /// A block is written by the proved writer. A test of edition 2 isn't: plain Rust puts it together, and the library reads it
     /// before it is handed out. That reading gives this table back is tested, and not proved.
@@ -532,6 +532,24 @@ mod tests {
             assert_eq!(refused(|t| t.initial_value(location, 1)), (5, None));
             assert_eq!(refused(|t| t.final_value(location, 0)), (5, None));
         }
+    }
+
+    #[test]
+    fn a_location_that_is_neither_touched_nor_stated_is_refused() {
+        assert_eq!(refused(|t| t.locations = 3), (21, None));
+        assert_eq!(refused(|t| (t.locations, t.initial[2]) = (3, 7)), (21, None));
+        assert_eq!(refused_in_two(|t| t.locations = 8), (21, None));
+        // A fence has location 0, and touches nothing.
+        let mut fenced = Table::new(1, 2);
+        fenced.fence_tso(0);
+        fenced.load(0, Y, 0);
+        assert_eq!(fenced.block().map_err(|refusal| refusal.number), Err(21));
+        fenced.final_value(X, 0);
+        assert!(fenced.block().is_ok());
+        let mut stated = thirty();
+        stated.locations = 2;
+        stated.final_value(Y, 0);
+        assert!(stated.test().is_ok());
     }
 
     #[test]

@@ -57,24 +57,25 @@ pub struct Witnesses<'a> {
 }
 
 impl<'a> Witnesses<'a> {
-    /// From the beginning. It is refused by 1 to 11, as the test is.
+    /// From the beginning. It is refused by 1 to 11 and 21, as the test is.
     pub fn of(test: &'a [u8]) -> Result<Witnesses<'a>, Refusal> {
         Witnesses::resume(test, &[])
     }
 
     /// From a start that an earlier walk over the same test had reached, by the same engine as [`of`](Witnesses::of). It is
-    /// refused by 1 to 11, and by 15 if no walk over this test could have such a start.
+    /// refused by 1 to 11 and 21, and by 15 if no walk over this test could have such a start.
     pub fn resume(test: &'a [u8], start: &[u8]) -> Result<Witnesses<'a>, Refusal> {
         Witnesses::by(search, test, start)
     }
 
-    /// From the beginning, by the engine that gives up early ([`search_pruned`]). It is refused by 1 to 11, as the test is.
+    /// From the beginning, by the engine that gives up early ([`search_pruned`]). It is refused by 1 to 11 and 21, as the
+    /// test is.
     pub fn pruned(test: &'a [u8]) -> Result<Witnesses<'a>, Refusal> {
         Witnesses::resume_pruned(test, &[])
     }
 
     /// From a start that an earlier [`pruned`](Witnesses::pruned) walk over the same test had reached. It is refused by 1 to
-    /// 11, and by 15 if no such walk could have that start.
+    /// 11 and 21, and by 15 if no such walk could have that start.
     ///
     /// ```
     /// use cogthunder::{Answer, Witnesses};

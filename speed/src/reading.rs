@@ -1,4 +1,4 @@
-//! Reading a test in plain Rust: refusals 1 to 11, and the table.
+//! Reading a test in plain Rust: refusals 1 to 11 and 21, and the table.
 
 use crate::facts::{ACQUIRE, RELEASE};
 use crate::table::*;
@@ -74,10 +74,18 @@ fn is_check_wrong(block: &[u8]) -> bool {
     block[CHECK_AT..] != check(block).to_le_bytes()
 }
 
-/// Lines 7 to 11.
+/// Lines 7 to 11 and 21.
 fn refuse_events<M: Mask>(events: &[Event<M>], block: &[u8; BLOCK]) -> Result<(), Refusal> {
     let (harts, locations) = (block[HARTS_AT], block[LOCATIONS_AT]);
-    refuse_last(events, events.iter().position(|e| form_broken(e, harts, locations) || operation_broken(e)))
+    refuse_last(events, events.iter().position(|e| form_broken(e, harts, locations) || operation_broken(e)))?;
+    refuse_unused(events, locations, block[STATED_AT])
+}
+
+/// Line 21: a location that no memory event touches, and that isn't among the stated ones. All of these are in the test.
+pub fn refuse_unused<M: Mask>(events: &[Event<M>], locations: u8, stated: u8) -> Result<(), Refusal> {
+    let memory = events.iter().filter(|e| e.is_memory());
+    let used = memory.fold(u16::from(stated), |used, e| used | 1 << e.location);
+    refuse_if(used + 1 != 1 << locations, 21)
 }
 
 /// Lines 7 to 11, where line 7 is broken by the record given.
@@ -355,7 +363,7 @@ mod tests {
         lines.sort();
         lines.dedup();
         // By 1 where the edition becomes 2.
-        assert_eq!(lines, [1, 2, 3, 4, 5, 6, 7, 8, 9, 10, 11]);
+        assert_eq!(lines, [1, 2, 3, 4, 5, 6, 7, 8, 9, 10, 11, 21]);
     }
 
     #[test]
@@ -368,11 +376,15 @@ mod tests {
         }
         lines.sort();
         lines.dedup();
-        assert_eq!(lines, [1, 2, 3, 4, 5, 6, 7, 8, 9, 10, 11]);
+        assert_eq!(lines, [1, 2, 3, 4, 5, 6, 7, 8, 9, 10, 11, 21]);
     }
 
     #[test]
-    fn the_timed_tests_of_edition_2_are_good() {
+    fn the_timed_tests_are_good() {
+        let timed = shapes::timed().into_iter().map(|(_, table)| table);
+        for table in timed.chain(shapes::small()).chain(shapes::message_passings()).chain([shapes::increments()]) {
+            assert_eq!(agreed(&table.encode()), None);
+        }
         for table in shapes::of_two() {
             assert_eq!(agreed(&table.encode()), None);
         }

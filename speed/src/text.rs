@@ -1,6 +1,6 @@
-//! Reading a text in plain Rust: refusals 1, 5, 7 to 11, 19, 20 and 23, the table, and the condition.
+//! Reading a text in plain Rust: refusals 1, 5, 7 to 11, 19, 20, 21 and 23, the table, and the condition.
 
-use crate::reading::{form_broken, refuse_if, refuse_last, Refusal};
+use crate::reading::{form_broken, refuse_if, refuse_last, refuse_unused, Refusal};
 use crate::table::*;
 
 const LONGEST: usize = 2048;
@@ -66,6 +66,12 @@ impl Test {
             }
         })
     }
+
+    /// The locations whose ends the condition asks for, all of which are in the test.
+    fn named_ends(&self) -> u8 {
+        let ends = self.condition().iter().filter(|&word| word & SMALL == word::ENDS);
+        ends.fold(0, |named, word| named | 1 << (word >> 8 & SMALL))
+    }
 }
 
 /// Why a text is refused.
@@ -90,6 +96,7 @@ pub fn read(text: &[u8], test: &mut Test) -> Result<(), Refused> {
     let broken = |e: &Event<u32>| form_broken(e, harts as u8, locations as u8) || line_broken(e);
     refuse_last(events, events.iter().position(broken))?;
     refuse_if(test.names_wrong(), NAMES)?;
+    refuse_unused(events, locations as u8, test.named_ends())?;
     Ok(())
 }
 
@@ -343,6 +350,6 @@ mod tests {
         }
         lines.sort();
         lines.dedup();
-        assert!([5, 7, 8, 9, 10, 19, 23].iter().all(|line| lines.contains(line)), "{lines:?}");
+        assert!([5, 7, 8, 9, 10, 19, 21, 23].iter().all(|line| lines.contains(line)), "{lines:?}");
     }
 }

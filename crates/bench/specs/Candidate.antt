@@ -10,7 +10,7 @@ use Rattle.model.specs.Verdict.{Verdict, verdict}
 use Rattle.candidate.specs.Buffers.{written}
 use Rattle.answers.specs.Candidate.{candidateLines, orderLines}
 
--- the lines of a verdict: 1 to 11, 12, 13, 14
+-- the lines of a verdict: 1 to 11, 21, 12, 13, 14
 unfoldable pub verdictLines : List ℕ → List ℕ → List ℕ → List Line
 verdictLines s rf gmo = readingLines s ++ candidateLines (decoded s) rf gmo
 
@@ -18,7 +18,7 @@ verdictLines s rf gmo = readingLines s ++ candidateLines (decoded s) rf gmo
 unfoldable pub verdictOf : List ℕ → List ℕ → List ℕ → Reply Refused Verdict
 verdictOf s rf gmo = replyUnless (firstLine (decoded s .count) (verdictLines s rf gmo)) (verdict (decoded s) rf gmo)
 
--- the lines of "the returned list that an order determines": 1 to 11, 12, 13, 16
+-- the lines of "the returned list that an order determines": 1 to 11, 21, 12, 13, 16
 unfoldable pub returnsLines : List ℕ → List ℕ → List ℕ → List Line
 returnsLines s gmo out = readingLines s ++ orderLines (decoded s) gmo out
 

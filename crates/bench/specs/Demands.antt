@@ -45,9 +45,9 @@ Unaltered r before after = r ≢ accepted → after ≡ before
 -- s: a block's bytes, a suite's or a text's; t: a table; rf, gmo, start: a returned list, an order, a search's start; out: the buffer
 module _ (s : List ℕ) (t : Table) (rf gmo start out : List ℕ) (a b allowance k : ℕ) where
   pub record Demand1 : Type 0 where
-    -- reading: lines 1 to 11
+    -- reading: lines 1 to 11 and 21
     pub read : Exactly (decoded s .count) (readingLines s) (readRefusal s)
-    -- writing: lines 1 and 5 to 11
+    -- writing: lines 1, 5 to 11 and 21
     pub write : Exactly (t .count) (writingLines t out) (writeRefusal t out)
     pub write-unaltered : Unaltered (writeRefusal t out) out (writtenBlock t out)
     -- the verdict for a candidate: lines 1 to 14
@@ -57,13 +57,13 @@ module _ (s : List ℕ) (t : Table) (rf gmo start out : List ℕ) (a b allowance
     -- the returned list of an order: lines 1 to 13 and 16
     pub returns : Exactly (decoded s .count) (returnsLines s gmo out) (returnsRefusal s gmo out)
     pub returns-unaltered : Unaltered (returnsRefusal s gmo out) out (returnsBuffer s gmo out)
-    -- a search: lines 1 to 11 and 15 to 17
+    -- a search: lines 1 to 11, 21 and 15 to 17
     pub search : Exactly (decoded s .count) (searchLines s start out allowance) (refusalIn (searchReply s start out allowance))
     pub search-unaltered : Unaltered (refusalIn (searchReply s start out allowance)) out (searchBuffer s start out allowance)
     -- the same by the second engine, whose line 15 is over its own list
     pub pruned : Exactly (decoded s .count) (prunedLines s start out allowance) (refusalIn (prunedReply s start out allowance))
     pub pruned-unaltered : Unaltered (refusalIn (prunedReply s start out allowance)) out (prunedBuffer s start out allowance)
-    -- reading a text: line 1, the first breach by 19 or 20 with its place, lines 5 to 11 and 23
+    -- reading a text: line 1, the first breach by 19 or 20 with its place, lines 5 to 11, 23 and 21
     pub text : Exactly (tableOfText s .count) (textLines s) (textRefusal s)
     -- a search of a text: these, and lines 15 to 17
     pub text-search : Exactly (tableOfText s .count) (textSearchLines s start out allowance) (refusalIn (textReply s start out allowance))

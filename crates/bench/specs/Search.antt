@@ -43,7 +43,7 @@ abbrev pub ofText : List ℕ → Searched
 ofText s =
     record { lines = textLines s; table = tableOfText s; passes = clean (tableOfText s); outcome = meets (tableOfText s) (conditionOf s) }
 
--- the lines of a search: for a block 1 to 11, for a text 1, 19, 20, 5 to 11, 23; then 15, 16, 17
+-- the lines of a search: for a block 1 to 11, 21, for a text 1, 19, 20, 5 to 11, 23, 21; then 15, 16, 17
 unfoldable pub linesTo : Searched → List ℕ → List ℕ → ℕ → List Line
 linesTo q start out b = q .lines ++ startLines (q .table) (q .passes) start out b
 

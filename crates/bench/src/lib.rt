@@ -22,14 +22,14 @@ ghost use Rattle.text.specs.TextRefusals.{textRefusalOf};
 ghost use Rattle.bench.specs.Search.{searchReply, searchBuffer, prunedReply, prunedBuffer, textReply, textBuffer};
 ghost use Rattle.bench.specs.TextReplies.{textReplyOf, textLengthOf};
 
-// Reading a test: refusals 1 to 11, and the table.
+// Reading a test: refusals 1 to 11 and 21, and the table.
 pub fn read(bytes: &[u8]) -> Reading
     ensures { λ r. ⌜ (refusalOf (r .refusal) ≡ readRefusal (now (bytes .entry))) × (r .table ≡ readTable (now (bytes .entry))) ⌝ }
 {
     block::read(bytes)
 }
 
-// Writing a block: refusals 1 and 5 to 11, and the table's bytes.
+// Writing a block: refusals 1, 5 to 11 and 21, and the table's bytes.
 pub fn write(t: Table, out: &mut [u8]) -> Refusal
     ensures { λ r. ⌜ refusalOf r ≡ writeRefusal t (now (out .entry)) ⌝ }
     ensures { λ r. ⌜ now (out .exit) ≡ writtenBlock t (now (out .entry)) ⌝ }
@@ -153,7 +153,7 @@ pub struct TextTest {
     pub table: Table,
 }
 
-// Reading a text: refusals 1, 19, 20, 5 to 11 and 23, and the table.
+// Reading a text: refusals 1, 19, 20, 5 to 11, 23 and 21, and the table.
 pub fn read_text(text: &[u8]) -> TextTest
     ensures { λ r. ⌜ (textRefusalOf (r .refusal) ≡ textRefusal (now (text .entry))) × (r .table ≡ textTable (now (text .entry))) ⌝ }
 {

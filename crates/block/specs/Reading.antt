@@ -1,4 +1,4 @@
--- Reading a test: refusals 1 to 11, and the table.
+-- Reading a test: refusals 1 to 11 and 21, and the table.
 use Prim.Native.Nat.{ℕ, _+_, _-_}
 use mathlib.Core.Path.{_≡_}
 use mathlib.Core.Bool.{Bool, true, false, _&&_, _||_, not}
@@ -49,11 +49,11 @@ laterCheckWrong e s = some (blocksOf e - 1) (λ k. line2 (blockOf s (1 + k)))
 unfoldable pub lengthLines : Edition → List ℕ → List Line
 lengthLines e s = whole 1 (lengthWrong e s) ∷ whole 2 (laterCheckWrong e s) ∷ []
 
--- what the edition asks: its length, and lines 5 to 11 with its limits
+-- what the edition asks: its length, and lines 5 to 11 with its limits, and 21
 unfoldable pub editionLines : Edition → List ℕ → List Line
 editionLines e s = lengthLines e s ++ tableLines (mostEvents e) (bytesNotZero e s) (decodedAs e s)
 
--- lines 1 to 11, in their order
+-- lines 1 to 11 and 21, in their order
 unfoldable pub readingLines : List ℕ → List Line
 readingLines s = headerLines s ++ editionLines (editionOf s) s
 

@@ -1,4 +1,4 @@
-// Reading a test of either edition: refusals 1 to 11, and the table.
+// Reading a test of either edition: refusals 1 to 11 and 21, and the table.
 use decode::At;
 use decode::MARKER;
 use edition::EditionOne;
@@ -85,7 +85,7 @@ fn read_one(s: &[u8]) -> Reading
         return refused(1);
     }
     let t = decode::decode(s);
-    let refusal = table_lines::refuse(t, EditionOne::EVENTS, zero_bytes::bytes_not_zero(s));
+    let refusal = table_lines::refuse(t, t.stated, EditionOne::EVENTS, zero_bytes::bytes_not_zero(s));
     match refusal {
         Refusal::None => Reading {
             refusal: Refusal::None,
@@ -120,12 +120,12 @@ fn read_two(s: &[u8]) -> Reading
     }
     let t = wide_records::decode(s);
     table_if(
-        table_lines::refuse(t, EditionTwo::EVENTS, zero_bytes::wide_bytes_not_zero(s)),
+        table_lines::refuse(t, t.stated, EditionTwo::EVENTS, zero_bytes::wide_bytes_not_zero(s)),
         t,
     )
 }
 
-// Any bytes: the first refusal of 1 to 11, and the table, which is blank if there is one.
+// Any bytes: the first refusal of 1 to 11 and 21, and the table, which is blank if there is one.
 pub fn read(s: &[u8]) -> Reading
     ensures { λ r. ⌜ (refusalOf (r .refusal) ≡ readRefusal (now (s .entry))) × (r .table ≡ readTable (now (s .entry))) ⌝ }
 {

@@ -7,8 +7,8 @@ use Rattle.model.specs.Cases.{litmusCases}
 use Rattle.model.specs.RuleCases.{mayOrderCases, rule1Cases, rule2Cases, rule3Cases, rule4Cases, rule5Cases, rule6Cases, rule7Cases, rule8Cases, rule9Cases, rule10Cases, rule11Cases, rule12Cases, rule13Cases}
 use Rattle.model.specs.AxiomCases.{loadValueCases, atomicityCases, statedCases, verdictCases, orderCases, prefixCases}
 use Rattle.model.specs.PrunedCases.{settledCases, spoiledCases, prunedCases}
-use Rattle.model.specs.FollowingCases.{followingCases, conditionCases, unknownCases}
-use Rattle.model.specs.LineCases.{line5Cases, line6Cases, line7Cases, textLine7Cases, line8Cases, line9Cases, line10Cases, line11Cases, lineOrderCases}
+use Rattle.model.specs.FollowingCases.{followingCases, conditionCases, unknownCases, unusedCases}
+use Rattle.model.specs.LineCases.{line5Cases, line6Cases, line7Cases, textLine7Cases, line8Cases, line9Cases, line10Cases, line11Cases, line21Cases, lineOrderCases}
 use Rattle.model.specs.Worked.{together, headings, worked}
 
 litmus-right : Every litmusCases
@@ -119,6 +119,10 @@ unknown-right : Every unknownCases
 unfolding computes
 unknown-right = (refl, refl, (refl, refl, (refl, refl, (refl, refl, (refl, refl, (refl, refl, (refl, refl, (refl, refl, (refl, refl, (refl, refl, (refl, refl, (refl, refl, (refl, refl, (refl, refl, (refl, refl, (refl, refl, (refl, refl, (refl, refl, (refl, refl, (refl, refl, tt))))))))))))))))))))
 
+unused-right : Every unusedCases
+unfolding computes
+unused-right = (refl, refl, (refl, refl, (refl, refl, (refl, refl, (refl, refl, (refl, refl, (refl, refl, (refl, refl, (refl, refl, (refl, refl, (refl, refl, (refl, refl, tt))))))))))))
+
 line5-right : Every line5Cases
 unfolding computes
 line5-right = (tt, refl, (tt, refl, (tt, refl, (tt, refl, (tt, refl, (tt, refl, (tt, refl, (tt, refl, (tt, refl, (tt, refl, (tt, refl, (tt, refl, (tt, refl, (tt, refl, (tt, refl, (tt, refl, (tt, refl, (tt, refl, (tt, refl, (tt, refl, (tt, refl, (tt, refl, tt))))))))))))))))))))))
@@ -151,6 +155,10 @@ line11-right : Every line11Cases
 unfolding computes
 line11-right = (tt, refl, (tt, refl, (tt, refl, (tt, refl, (tt, refl, (tt, refl, (tt, refl, (tt, refl, tt))))))))
 
+line21-right : Every line21Cases
+unfolding computes
+line21-right = (tt, refl, (tt, refl, (tt, refl, (tt, refl, (tt, refl, (tt, refl, (tt, refl, (tt, refl, (tt, refl, (tt, refl, (tt, refl, (tt, refl, (tt, refl, (tt, refl, (tt, refl, (tt, refl, (tt, refl, (tt, refl, (tt, refl, (tt, refl, (tt, refl, (tt, refl, (tt, refl, (tt, refl, (tt, refl, (tt, refl, (tt, refl, (tt, refl, tt))))))))))))))))))))))))))))
+
 line-order-right : Every lineOrderCases
 unfolding computes
 line-order-right = (tt, refl, (tt, refl, (tt, refl, (tt, refl, (tt, refl, (tt, refl, (tt, refl, (tt, refl, (tt, refl, (tt, refl, tt))))))))))
@@ -170,4 +178,4 @@ all-together [] r = tt
 all-together (cs ∷ rest) r = both cs (together rest) (r .0) (all-together rest (r .1))
 
 pub worked-right : Every worked
-worked-right = all-together headings (litmus-right, (may-order-right, (rule1-right, (rule2-right, (rule3-right, (rule4-right, (rule5-right, (rule6-right, (rule7-right, (rule8-right, (rule9-right, (rule10-right, (rule11-right, (rule12-right, (rule13-right, (load-value-right, (atomicity-right, (stated-right, (verdict-right, (order-right, (prefix-right, (settled-right, (spoiled-right, (pruned-right, (following-right, (condition-right, (unknown-right, (line5-right, (line6-right, (line7-right, (text-line7-right, (line8-right, (line9-right, (line10-right, (line11-right, (line-order-right, tt))))))))))))))))))))))))))))))))))))
+worked-right = all-together headings (litmus-right, (may-order-right, (rule1-right, (rule2-right, (rule3-right, (rule4-right, (rule5-right, (rule6-right, (rule7-right, (rule8-right, (rule9-right, (rule10-right, (rule11-right, (rule12-right, (rule13-right, (load-value-right, (atomicity-right, (stated-right, (verdict-right, (order-right, (prefix-right, (settled-right, (spoiled-right, (pruned-right, (following-right, (condition-right, (unknown-right, (unused-right, (line5-right, (line6-right, (line7-right, (text-line7-right, (line8-right, (line9-right, (line10-right, (line11-right, (line21-right, (line-order-right, tt))))))))))))))))))))))))))))))))))))))

@@ -7,13 +7,13 @@ use Rattle.table.specs.declared.Event.{Event}
 use Rattle.table.specs.declared.Table.{Table}
 use Rattle.prefixes.specs.Answer.{found, noneLeft, spent}
 use Rattle.model.specs.Verdict.{allowed, brokenPpo, brokenLoadValue, brokenAtomicity, brokenValueRead, brokenFinalValue}
-use Rattle.model.specs.Claims.{x, y, z, loads, stores, swaps, reserved, conditional, fences, fullFence, dataOn, event0, plainTest, valued}
+use Rattle.model.specs.Claims.{x, y, z, loads, stores, swaps, reserved, conditional, fences, fullFence, dataOn, event0, plainTest, touching, valued}
 use Rattle.model.specs.Claims.{initially, nothing, Claim, searched, judged, meets, returning, atomicityAt, weighed, cleanly, allClean}
 use Rattle.model.specs.Cases.{c1, c2, c4, c5, c7, c8}
 
--- up to three harts, three locations, zero initial values
+-- up to three harts, zero initial values
 abbrev program : List Event → Table
-program es = plainTest 3 3 es
+program es = plainTest 3 (touching es) es
 
 -- store x (0) and load x (1) on hart 0; store x (2) on hart 1
 abbrev forwarded : Table
@@ -146,7 +146,7 @@ statedCases =
     ∷ judged (valued 1 2 1 (3 ∷ 4 ∷ []) (1 ∷ []) (stores 0 y 1 ∷ loads 0 x 3 ∷ [])) (nothing ∷ initially ∷ []) (0 ∷ 1 ∷ [])
     (brokenFinalValue 0)
     -- what isn't stated isn't asked
-    ∷ judged (valued 1 2 0 (3 ∷ []) [] (stores 0 x 1 ∷ [])) (nothing ∷ []) (0 ∷ []) allowed
+    ∷ judged (valued 1 1 0 (3 ∷ []) [] (stores 0 x 1 ∷ [])) (nothing ∷ []) (0 ∷ []) allowed
     ∷ judged (valued 1 2 2 (3 ∷ []) [] (stores 0 x 1 ∷ [])) (nothing ∷ []) (0 ∷ []) allowed
     -- the lowest location
     ∷ judged (valued 1 2 3 [] (7 ∷ 7 ∷ []) (stores 0 x 1 ∷ [])) (nothing ∷ []) (0 ∷ []) (brokenFinalValue 0)

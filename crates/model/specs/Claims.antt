@@ -1,6 +1,6 @@
 -- Worked cases: events and tables in few words, and what can be stated of them. x, y, z, v are locations 0 to 3. Numbers are the
 -- paper's, and not names of the definitions, which the cases are to hold.
-use Prim.Native.Nat.{ℕ, _-_}
+use Prim.Native.Nat.{ℕ, suc, max, _-_}
 use mathlib.Core.Path.{_≡_}
 use mathlib.Core.Bool.{Bool, true, false, cond}
 use mathlib.Core.List.{List, [], _∷_, _++_, map}
@@ -12,7 +12,7 @@ use Rattle.table.specs.declared.Event.{Event}
 use Rattle.table.specs.declared.Table.{Table}
 use Rattle.table.specs.Events.{reads}
 use Rattle.refusals.specs.Lines.{Refused, accepted, firstLine}
-use Rattle.refusals.specs.TableLines.{textLine7, tableLinesBy, tableLines}
+use Rattle.refusals.specs.TableLines.{textLine7, line21, tableLinesBy, tableLines}
 use Rattle.text_format.specs.Condition.{Condition}
 use Rattle.prefixes.specs.Answer.{Answer}
 use Rattle.model.specs.Rules.{ppo, staticPpo, ruleSet}
@@ -22,7 +22,7 @@ use Rattle.model.specs.Witness.{isOrder, lawful, witness}
 use Rattle.model.specs.Verdict.{Verdict, verdict}
 use Rattle.model.specs.Prefixes.{clean, cleanPrefixes, search, witnesses}
 use Rattle.model.specs.Settled.{settled, spoiled, unpruned, unprunedPrefixes, searchPruned}
-use Rattle.model.specs.Following.{returnedValue, endValue, meets as meetsCondition, namesUnknown}
+use Rattle.model.specs.Following.{returnedValue, endValue, meets as meetsCondition, namesUnknown, namesLocation}
 
 abbrev pub x : ℕ
 x = 0
@@ -157,6 +157,11 @@ valued h l s i f es =
 abbrev pub plainTest : (harts locations : ℕ) → List Event → Table
 plainTest h l es = valued h l 0 [] [] es
 
+-- the locations up to the last that the events touch
+abbrev pub touching : List Event → ℕ
+touching [] = 0
+touching (e ∷ es) = max (suc (e .location .0)) (touching es)
+
 -- a pair that preserved order orders, with the set of its rules: a steady one is among them, or none is
 pub data Ordered : Type 0 where
   steadySet : (a b : ℕ) → List ℕ → Ordered
@@ -193,7 +198,7 @@ namedWriter t rf gmo l = kept (breaksAtomicity t rf gmo l) (atomicityWriter t rf
 abbrev pub allValues : Table → List ℕ → List ℕ
 allValues t gmo = map (returnedValue t gmo) (keep (reads t) (below (t .count))) ++ map (endValue t gmo) (below (t .locations))
 
--- the refusal of a table by lines 5 to 11, with the most events that the edition allows; extra: a byte that is no field and is
+-- the refusal of a table by lines 5 to 11 and 21, with the most events that the edition allows; extra: a byte that is no field and is
 -- named zero isn't
 abbrev pub refusalIn : Edition → Bool → Table → Refused
 refusalIn e extra t = firstLine (t .count) (tableLines (mostEvents e) extra t)
@@ -246,7 +251,9 @@ pub data Claim : Type 0 where
   makes : Table → (gmo : List ℕ) → Condition → Bool → Claim
   -- the condition names an event that doesn't read or a location not in the test, or not
   misnames : Table → Condition → Bool → Claim
-  -- lines 5 to 11 accept the table
+  -- a location of a text with this condition is neither touched nor named, or none is
+  leavesUnused : Table → Condition → Bool → Claim
+  -- lines 5 to 11 and 21 accept the table
   accepts : Table → Claim
   -- they refuse it, by this
   refuses : Refused → Table → Claim
@@ -281,6 +288,7 @@ Right (searchedPruned t s b r) = searchPruned t s b ≡ r
 Right (gives t gmo vs) = allValues t gmo ≡ vs
 Right (makes t gmo c b) = meetsCondition t c gmo ≡ b
 Right (misnames t c b) = namesUnknown t c ≡ b
+Right (leavesUnused t c b) = line21 (namesLocation c) t ≡ b
 Right (accepts t) = refusal false t ≡ accepted
 Right (refuses r t) = refusal false t ≡ r
 Right (refusesWithBytes r t) = refusal true t ≡ r
@@ -289,11 +297,11 @@ Right (refusesWide r t) = refusalIn two false t ≡ r
 Right (acceptsText t) = textRefusal t ≡ accepted
 Right (refusesText r t) = textRefusal t ≡ r
 
--- lines 5 to 11 accept the table
+-- lines 5 to 11 and 21 accept the table
 abbrev pub Passes : Table → Type 0
 Passes t = refusal false t ≡ accepted
 
--- they accept the table of a text
+-- lines 5 to 11 accept the table of a text
 abbrev pub TextPasses : Table → Type 0
 TextPasses t = textRefusal t ≡ accepted
 
@@ -319,6 +327,7 @@ Accepted (searchedPruned t s b r) = Passes t
 Accepted (gives t gmo vs) = TextPasses t
 Accepted (makes t gmo c b) = TextPasses t
 Accepted (misnames t c b) = TextPasses t
+Accepted (leavesUnused t c b) = TextPasses t
 Accepted (accepts t) = Unit {0}
 Accepted (refuses r t) = Unit {0}
 Accepted (refusesWithBytes r t) = Unit {0}

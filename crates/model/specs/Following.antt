@@ -1,6 +1,6 @@
 -- "Tests as text": the values that follow from an order, and when a condition holds in it.
 use Prim.Native.Nat.{ℕ, zero, suc}
-use mathlib.Core.Bool.{Bool, cond, not, _&&_, _||_}
+use mathlib.Core.Bool.{Bool, false, cond, not, _&&_, _||_}
 use mathlib.Core.List.{List}
 use lib.ListN.{length}
 use lib.Dec.{eqb, ltb, leb}
@@ -47,3 +47,11 @@ namesUnknown t (ends x v) = leb (t .locations) x
 namesUnknown t (negated c) = namesUnknown t c
 namesUnknown t (both l r) = namesUnknown t l || namesUnknown t r
 namesUnknown t (either l r) = namesUnknown t l || namesUnknown t r
+
+-- 21: "a location named by `x` counts as stated": the condition names x
+unfoldable pub namesLocation : Condition → ℕ → Bool
+namesLocation (returning e v) x = false
+namesLocation (ends y v) x = eqb y x
+namesLocation (negated c) x = namesLocation c x
+namesLocation (both l r) x = namesLocation l x || namesLocation r x
+namesLocation (either l r) x = namesLocation l x || namesLocation r x

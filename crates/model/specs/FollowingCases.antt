@@ -7,7 +7,7 @@ use Rattle.table.specs.declared.Event.{Event}
 use Rattle.table.specs.declared.Table.{Table}
 use Rattle.text_format.specs.Condition.{Condition, returns, ends, negated, both, either}
 use Rattle.model.specs.Claims.{x, y, loads, stores, swaps, reserved, conditional, operated, fullFence, plainTest, valued}
-use Rattle.model.specs.Claims.{Claim, gives, makes, misnames}
+use Rattle.model.specs.Claims.{Claim, gives, makes, misnames, leavesUnused}
 
 -- an AMO that adds, one that leaves the smaller; they state no values
 abbrev adds : (hart location operand : ℕ) → Event
@@ -95,4 +95,27 @@ unknownCases =
     ∷ unknown (both (returns 1 0) (ends 2 0)) ∷ unknown (both (returns 2 0) (ends 0 0)) ∷ known (both (returns 1 0) (ends 0 0))
     ∷ unknown (either (returns 1 0) (ends 2 0)) ∷ unknown (either (returns 2 0) (ends 0 0))
     ∷ known (either (returns 1 0) (ends 0 0))
+    ∷ []
+
+-- three locations, of which only y is touched; a fence's zero byte doesn't touch x
+abbrev onlyY : Table
+onlyY = plainTest 1 3 (loads 0 y 0 ∷ fullFence 0 ∷ [])
+
+abbrev unused : Condition → Claim
+unused c = leavesUnused onlyY c true
+
+abbrev used : Condition → Claim
+used c = leavesUnused onlyY c false
+
+-- "in texts .. a location named by `x` counts as stated"
+abbrev pub unusedCases : List Claim
+unusedCases =
+    -- one name is too few, and so is the name of what is touched, or of an event
+    unused (ends 0 0) ∷ unused (ends 2 0) ∷ unused (ends 1 0) ∷ unused (returns 0 0) ∷ unused (both (returns 0 0) (returns 0 2))
+    -- both, by each connective, whatever the values
+    ∷ used (both (ends 0 0) (ends 2 0)) ∷ used (both (ends 2 5) (ends 0 5)) ∷ used (either (ends 0 0) (ends 2 0))
+    ∷ used (negated (both (ends 0 0) (negated (ends 2 0)))) ∷ used (either (both (ends 0 1) (ends 0 2)) (negated (ends 2 0)))
+    ∷ unused (either (both (ends 0 1) (ends 0 2)) (negated (returns 0 2)))
+    -- where every location is touched, no name is needed
+    ∷ leavesUnused sixKinds (returns 1 0) false
     ∷ []

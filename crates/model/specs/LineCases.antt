@@ -1,8 +1,9 @@
--- "When the bench declines a table": lines 5 to 11, each clause for each kind, with what is accepted beside it; line 7 also of
+-- "When the bench declines a table": lines 5 to 11 and 21, each clause for each kind, with what is accepted beside it; line 7 also of
 -- texts.
-use Prim.Native.Nat.{ℕ, _+_, _^_}
-use mathlib.Core.List.{List, [], _∷_, _++_}
+use Prim.Native.Nat.{ℕ, max, _+_, _^_}
+use mathlib.Core.List.{List, [], _∷_, _++_, map}
 use lib.ListN.{replicate}
+use Rattle.lists.specs.Below.{below}
 use Rattle.table.specs.declared.Event.{Event}
 use Rattle.table.specs.declared.Table.{Table}
 use Rattle.refusals.specs.Lines.{byLine, byRecord}
@@ -12,9 +13,13 @@ use Rattle.model.specs.Claims.{acquireRCpc, acquireRCsc, releaseRCpc, re
 use Rattle.model.specs.Claims.{Claim, accepts, refuses, refusesWithBytes, acceptsWide, refusesWide}
 use Rattle.model.specs.Claims.{acceptsText, refusesText}
 
--- two harts, two locations
+-- two harts, two locations, whose final values are stated, so that it doesn't matter whether an event touches them
 abbrev program : List Event → Table
-program es = plainTest 2 2 es
+program es = valued 2 2 3 [] [] es
+
+-- a load of each of n locations
+abbrev loadsOf : ℕ → List Event
+loadsOf n = map (λ k. loads 0 k 0) (below n)
 
 -- one event alone
 abbrev alone : Event → Table
@@ -32,9 +37,9 @@ thirtieth e = plainTest 1 1 (replicate 29 (loads 0 x 0) ++ (e ∷ []))
 abbrev secondOfPair : Event → Table
 secondOfPair e = program (reserved 0 x 0 ∷ e ∷ [])
 
--- so many harts and locations, this mask of final values
+-- so many harts and locations, each loaded, this mask of final values
 abbrev headed : (harts locations stated : ℕ) → Table
-headed h l s = valued h l s [] [] (loads 0 x 0 ∷ [])
+headed h l s = valued h l s [] [] (loadsOf (max 1 l))
 
 -- "harts, locations or events out of range, or the final mask names a location not in the test"
 abbrev pub line5Cases : List Claim
@@ -90,13 +95,13 @@ pastAll e = oneOf (filled 31 blankEvent (loads 0 x 0 ∷ []) ++ (e ∷ []))
 abbrev pub line6Cases : List Claim
 line6Cases =
     accepts (valued 1 1 0 (5 ∷ []) [] (loads 0 x 0 ∷ []))
-    ∷ accepts (valued 1 8 0 (replicate 8 5) [] (loads 0 x 0 ∷ []))
+    ∷ accepts (valued 1 8 0 (replicate 8 5) [] (loadsOf 8))
     ∷ refuses (byLine 6) (valued 1 1 0 (0 ∷ 5 ∷ []) [] (loads 0 x 0 ∷ []))
     ∷ refuses (byLine 6) (valued 1 7 0 (replicate 8 5) [] (loads 0 x 0 ∷ []))
     -- a final value that isn't stated, also of a location in the test
-    ∷ accepts (valued 1 2 1 [] (5 ∷ []) (loads 0 x 0 ∷ []))
+    ∷ accepts (valued 1 2 1 [] (5 ∷ []) (loadsOf 2))
     ∷ accepts (valued 1 2 2 [] (0 ∷ 5 ∷ []) (loads 0 x 0 ∷ []))
-    ∷ accepts (valued 1 8 128 [] (0 ∷ 0 ∷ 0 ∷ 0 ∷ 0 ∷ 0 ∷ 0 ∷ 5 ∷ []) (loads 0 x 0 ∷ []))
+    ∷ accepts (valued 1 8 128 [] (0 ∷ 0 ∷ 0 ∷ 0 ∷ 0 ∷ 0 ∷ 0 ∷ 5 ∷ []) (loadsOf 8))
     ∷ refuses (byLine 6) (valued 1 2 0 [] (5 ∷ []) (loads 0 x 0 ∷ []))
     ∷ refuses (byLine 6) (valued 1 2 1 [] (0 ∷ 5 ∷ []) (loads 0 x 0 ∷ []))
     ∷ refuses (byLine 6) (valued 1 2 2 [] (5 ∷ []) (loads 0 x 0 ∷ []))
@@ -427,6 +432,49 @@ line11Cases =
     ∷ accepts (alone (swaps 0 x 0 1))
     ∷ accepts (alone (reserved 0 x 0))
     ∷ accepts (program (fullFence 0 ∷ loads 0 x 0 ∷ []))
+    ∷ []
+
+-- so many locations, whose final values aren't stated
+abbrev touched : (locations : ℕ) → List Event → Table
+touched l es = plainTest 2 l es
+
+-- "a location no memory event touches and whose final value isn't stated"
+abbrev pub line21Cases : List Claim
+line21Cases =
+    -- each kind touches its location
+    accepts (touched 1 (loads 0 x 0 ∷ []))
+    ∷ accepts (touched 2 (loads 0 x 0 ∷ loads 1 y 0 ∷ []))
+    ∷ accepts (touched 2 (loads 0 x 0 ∷ stores 1 y 1 ∷ []))
+    ∷ accepts (touched 2 (loads 0 x 0 ∷ swaps 1 y 0 1 ∷ []))
+    ∷ accepts (touched 2 (loads 0 x 0 ∷ reserved 1 y 0 ∷ []))
+    ∷ accepts (touched 2 (reserved 0 x 0 ∷ conditional 0 x 1 ∷ stores 0 y 1 ∷ []))
+    ∷ accepts (touched 8 (loadsOf 8))
+    ∷ acceptsWide (touched 8 (loadsOf 8 ++ loadsOf 8 ++ loadsOf 8))
+    -- the first, one between, the last; of either edition
+    ∷ refuses (byLine 21) (touched 2 (loads 0 y 0 ∷ []))
+    ∷ refuses (byLine 21) (touched 3 (loads 0 x 0 ∷ loads 0 2 0 ∷ []))
+    ∷ refuses (byLine 21) (touched 2 (loads 0 x 0 ∷ stores 1 x 1 ∷ []))
+    ∷ refuses (byLine 21) (touched 8 (loadsOf 7))
+    ∷ refusesWide (byLine 21) (touched 8 (loadsOf 7 ++ loadsOf 7 ++ loadsOf 7))
+    -- a fence touches none, though its location byte is 0
+    ∷ refuses (byLine 21) (touched 2 (loads 0 y 0 ∷ fullFence 0 ∷ []))
+    ∷ refuses (byLine 21) (touched 2 (loads 0 y 0 ∷ fencesTso 1 ∷ []))
+    -- a stated location may be untouched, whatever its values; another's statement doesn't help
+    ∷ accepts (valued 1 2 1 [] [] (loads 0 y 0 ∷ []))
+    ∷ accepts (valued 1 2 2 [] (0 ∷ 5 ∷ []) (loads 0 x 0 ∷ []))
+    ∷ accepts (valued 1 8 254 [] [] (loads 0 x 0 ∷ []))
+    ∷ refuses (byLine 21) (valued 1 2 1 [] (5 ∷ []) (loads 0 x 0 ∷ []))
+    ∷ refuses (byLine 21) (valued 1 8 126 [] [] (loads 0 x 0 ∷ []))
+    -- nor does an initial value
+    ∷ refuses (byLine 21) (valued 1 2 0 (0 ∷ 5 ∷ []) [] (loads 0 x 0 ∷ []))
+    -- "checked after 11": each line before it comes first
+    ∷ refuses (byLine 5) (plainTest 0 2 (loads 0 x 0 ∷ []))
+    ∷ refuses (byLine 6) (valued 1 2 0 [] (5 ∷ []) (loads 0 x 0 ∷ []))
+    ∷ refuses (byRecord 7 0) (touched 2 (loads 2 x 0 ∷ []))
+    ∷ refuses (byRecord 8 0) (touched 2 (flagged releaseRCpc (loads 0 x 0) ∷ []))
+    ∷ refuses (byRecord 9 0) (touched 2 (addressOn event0 (loads 0 x 0) ∷ []))
+    ∷ refuses (byRecord 10 0) (touched 2 (conditional 0 x 1 ∷ []))
+    ∷ refuses (byLine 11) (touched 2 (fullFence 0 ∷ []))
     ∷ []
 
 -- "Exactly the lowest number whose line holds is given, or else none; within 7 to 10, its lowest record is named."

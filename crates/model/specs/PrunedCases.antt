@@ -6,13 +6,13 @@ use mathlib.Core.List.{List, [], _∷_}
 use Rattle.table.specs.declared.Event.{Event}
 use Rattle.table.specs.declared.Table.{Table}
 use Rattle.prefixes.specs.Answer.{found, noneLeft, spent}
-use Rattle.model.specs.Claims.{x, y, loads, stores, swaps, reserved, plainTest, valued, initially}
+use Rattle.model.specs.Claims.{x, y, loads, stores, swaps, reserved, plainTest, touching, valued, initially}
 use Rattle.model.specs.Claims.{Claim, settles, spoils, visits, allVisited, visitedCount, searchedPruned}
 use Rattle.model.specs.Cases.{c1, c2, c3, c4, c5, c6}
 
--- three harts, two locations, zero initial values
+-- three harts, zero initial values
 abbrev program : List Event → Table
-program es = plainTest 3 2 es
+program es = plainTest 3 (touching es) es
 
 -- store x (0) and load x (1) on hart 0; store x (2) on hart 1
 abbrev forwarded : Table
@@ -73,8 +73,8 @@ spoiledCases =
     ∷ spoils (c4 1) (1 ∷ []) false
     ∷ spoils (c4 0) (0 ∷ 1 ∷ []) true
     ∷ spoils (c4 1) (0 ∷ 1 ∷ []) false
-    ∷ spoils (valued 1 2 0 (5 ∷ 7 ∷ []) [] (loads 0 y 7 ∷ [])) (0 ∷ []) false
-    ∷ spoils (valued 1 2 0 (5 ∷ 7 ∷ []) [] (loads 0 y 5 ∷ [])) (0 ∷ []) true
+    ∷ spoils (valued 1 2 1 (5 ∷ 7 ∷ []) (5 ∷ []) (loads 0 y 7 ∷ [])) (0 ∷ []) false
+    ∷ spoils (valued 1 2 1 (5 ∷ 7 ∷ []) (5 ∷ []) (loads 0 y 5 ∷ [])) (0 ∷ []) true
     -- one of two readers is enough, wherever it stands; one that isn't listed doesn't count
     ∷ spoils c6 (0 ∷ []) false
     ∷ spoils c6 (0 ∷ 1 ∷ []) false

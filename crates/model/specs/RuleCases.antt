@@ -6,12 +6,12 @@ use Rattle.table.specs.declared.Event.{Event}
 use Rattle.table.specs.declared.Table.{Table}
 use Rattle.model.specs.Claims.{x, y, z, v, loads, stores, swaps, reserved, conditional, fences, fullFence, fencesTso}
 use Rattle.model.specs.Claims.{flagged, addressOn, dataOn, controlOn, event0, event1}
-use Rattle.model.specs.Claims.{acquireRCpc, acquireRCsc, releaseRCpc, releaseRCsc, plainTest}
+use Rattle.model.specs.Claims.{acquireRCpc, acquireRCsc, releaseRCpc, releaseRCsc, plainTest, touching}
 use Rattle.model.specs.Claims.{Ordered, steadySet, returnedSet, steady, returned, initially, nothing, Claim, preserved}
 
--- up to two harts, four locations
+-- up to two harts
 abbrev program : List Event → Table
-program es = plainTest 2 4 es
+program es = plainTest 2 (touching es) es
 
 -- no reader has an entry: rules 2, 3 and 12 hold of no pair
 abbrev unread : List ℕ

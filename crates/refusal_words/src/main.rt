@@ -1,12 +1,10 @@
 // Prints the table of the refusals in words, which is to be that of docs/refusals.txt.
 use console::Line;
 
-// The numbers of refusals; those between aren't given yet.
+// The numbers of refusals; one of them isn't given yet.
 const LAST: u8 = 23;
 
-const FIRST_FREE: u8 = 21;
-
-const LAST_FREE: u8 = 22;
+const FREE: u8 = 22;
 
 fn row(n: u8) {
     let begun = Line::output().number(console::wide(n)).text(b"\t");
@@ -16,7 +14,7 @@ fn row(n: u8) {
 fn main() {
     let mut n: u8 = 1;
     while n <= LAST {
-        if (n < FIRST_FREE) | (LAST_FREE < n) {
+        if n != FREE {
             row(n);
         }
         n += 1;

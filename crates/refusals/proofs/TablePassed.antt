@@ -12,6 +12,7 @@ use Rattle.refusals.specs.Lines.{accepted, firstLine}
 use Rattle.refusals.specs.TableLines.{line5, line6, line7, line8, line9, line10, line11}
 use Rattle.refusals.specs.TableLines.{recordLinesBy, tableLinesBy, tableLines}
 use Rattle.refusals.proofs.LineLaws.{whole-next, whole-off, record-off}
+use Rattle.refusals.proofs.PassedLaws.{passed-both}
 use Rattle.refusals.proofs.InRange.{InRange, in-range, fewer-in-range}
 
 -- line by line
@@ -52,7 +53,7 @@ table-passed-by asked most extra t h =
 pub table-passed : (most : ℕ) (extra : Bool) (t : Table) → firstLine (t .count) (tableLines most extra t) ≡ accepted
     → TablePassed (line7 t) most extra t
 unfolding tableLines
-table-passed most extra t h = table-passed-by (line7 t) most extra t h
+table-passed most extra t h = table-passed-by (line7 t) most extra t (passed-both (t .count) (tableLinesBy (line7 t) most extra t) _ h .0)
 
 -- it isn't refused where as many events are allowed as it has, and no other bytes are looked at
 pub fewer-passed : (most fewer : ℕ) (extra : Bool) (t : Table) → firstLine (t .count) (tableLines most extra t) ≡ accepted → t .count ≤ fewer

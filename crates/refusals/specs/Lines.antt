@@ -35,7 +35,8 @@ refusedIf true r rest = r
 refusedIf false r rest = rest
 
 -- "Exactly the lowest number whose line holds is given, or else none; within 7 to 10, its lowest record is named." The lines
--- stand in the paper's order, that of their numbers but for what T-06 says of lengths and checks; n is the number of records.
+-- stand in the paper's order, that of their numbers but for what T-06 says of lengths and checks and T-09 of 21; n is the number of
+-- records.
 unfoldable pub firstLine : ℕ → List Line → Refused
 firstLine n [] = accepted
 firstLine n (whole k b ∷ ls) = refusedIf b (byLine k) (firstLine n ls)

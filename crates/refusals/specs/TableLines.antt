@@ -1,8 +1,8 @@
--- "When the bench declines a table": lines 5 to 11, each a test of the table. `most` is the number of events that the edition
+-- "When the bench declines a table": lines 5 to 11 and 21, each a test of the table. `most` is the number of events that the edition
 -- allows, `extra` what line 6 says of bytes that are no field of the table.
 use Prim.Native.Nat.{ℕ, _^_}
 use mathlib.Core.Bool.{Bool, _&&_, _||_, not}
-use mathlib.Core.List.{List, [], _∷_}
+use mathlib.Core.List.{List, [], _∷_, _++_}
 use lib.ListN.{getD}
 use lib.Dec.{eqb, ltb, leb}
 use Rattle.lists.specs.Below.{some}
@@ -11,7 +11,7 @@ use Rattle.edition.specs.Limits.{maxHarts, maxLocations}
 use Rattle.operation.specs.Operation.{noOperation, amominu, applied}
 use Rattle.table.specs.declared.Event.{Event}
 use Rattle.table.specs.declared.Table.{Table}
-use Rattle.table.specs.Events.{capacity, event, kind, writes, memory, sameLocation, po, paired, readingKind, writingKind, memoryKind, fencingKind, load, store, amo, lr, sc, fencetso}
+use Rattle.table.specs.Events.{capacity, event, kind, location, writes, memory, sameLocation, po, paired, readingKind, writingKind, memoryKind, fencingKind, load, store, amo, lr, sc, fencetso}
 use Rattle.table.specs.Annotations.{acquirePc, acquireSc, releasePc, releaseSc, acquiring, releasing}
 use Rattle.refusals.specs.Lines.{Line, whole, record-of}
 
@@ -157,6 +157,14 @@ line10 t k = eqb (kind t k) sc && not (some (t .count) (pairedHere t k))
 unfoldable pub line11 : Table → Bool
 line11 t = not (some (t .count) (memory t))
 
+-- a memory event touches location x
+unfoldable pub touched : Table → ℕ → Bool
+touched t x = some (t .count) (λ e. memory t e && eqb (location t e) x)
+
+-- 21: "a location no memory event touches and whose final value isn't stated", where `named` has those that are stated
+unfoldable pub line21 : (named : ℕ → Bool) → Table → Bool
+line21 named t = some (t .locations) (λ x. not (touched t x) && not (named x))
+
 -- lines 7 to 11, by what line 7 asks of a record
 unfoldable pub recordLinesBy : (ℕ → Bool) → Table → List Line
 recordLinesBy asked t =
@@ -169,5 +177,6 @@ recordLines t = recordLinesBy (line7 t) t
 unfoldable pub tableLinesBy : (asked : ℕ → Bool) (most : ℕ) (extra : Bool) → Table → List Line
 tableLinesBy asked most extra t = whole 5 (line5 most t) ∷ whole 6 (extra || line6 t) ∷ recordLinesBy asked t
 
+-- of a block: 21 is "checked after 11"
 unfoldable pub tableLines : (most : ℕ) (extra : Bool) → Table → List Line
-tableLines most extra t = tableLinesBy (line7 t) most extra t
+tableLines most extra t = tableLinesBy (line7 t) most extra t ++ (whole 21 (line21 (bit (t .stated)) t) ∷ [])

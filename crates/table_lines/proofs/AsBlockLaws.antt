@@ -22,7 +22,7 @@ use Rattle.refusals.specs.TableLines.{fieldOutOfRange, valueNotZero, fenceNotZe
 use Rattle.refusals.specs.TableLines.{notApplied, shapeWrong, fieldsWrong, line7}
 use Rattle.refusals.specs.TableLines.{valueStated, textLine7, bothAtOnce, loadReleases, writerAcquires, annotationsWrong, line8}
 use Rattle.refusals.specs.TableLines.{names, namesWrongly, dataOfNonWriter, lacksControl, line9, pairedHere, line10, line11}
-use Rattle.refusals.specs.TableLines.{recordLinesBy, tableLinesBy, tableLines}
+use Rattle.refusals.specs.TableLines.{recordLinesBy, tableLinesBy}
 use Rattle.table_lines.specs.AsBlock.{bare, asBlock, AsBlock}
 
 -- of two lists of lines: the first that holds is the same if the first lines are, and so it is of the later lines
@@ -219,10 +219,10 @@ module _ (t u : Table) (a : AsBlock t u) where
       go false l = same-alike (event t k)
 
   pub text-lines : (most : ℕ)
-      → firstLine (u .count) (tableLines most false u) ≡ firstLine (t .count) (tableLinesBy (textLine7 t) most false t)
-  unfolding tableLines tableLinesBy recordLinesBy
+      → firstLine (u .count) (tableLinesBy (line7 u) most false u) ≡ firstLine (t .count) (tableLinesBy (textLine7 t) most false t)
+  unfolding tableLinesBy recordLinesBy
   text-lines most =
-      ap (λ (n : ℕ). firstLine n (tableLines most false u)) (a .count)
+      ap (λ (n : ℕ). firstLine n (tableLinesBy (line7 u) most false u)) (a .count)
       ∙ whole-same _ _ _ _ _ _ (five-same most) (whole-same _ _ _ _ _ _ six-same
       (record-same _ _ _ _ _ _ line7-same (λ h. later-same t u (a .count) (passed-alike h))))
 

@@ -1,5 +1,6 @@
-// Lines 5 to 11 of the table of refusals, each a test of the table, and the first that holds, of a block and of a text.
+// Lines 5 to 11 and 21 of the table of refusals, each a test of the table, and the first that holds, of a block and of a text.
 use edition::EditionTwo;
+use masks::has;
 use masks::lowest_set;
 use masks::one_if;
 use operation::Operation;
@@ -11,16 +12,18 @@ use table::Table;
 ghost use Prim.Native.Nat.{_≤_};
 ghost use mathlib.Core.Path.{_≡_};
 ghost use mathlib.Core.Bool.{false};
-ghost use mathlib.Core.List.{[], _∷_};
+ghost use mathlib.Core.List.{[], _∷_, _++_};
 ghost use Rattle.lists.specs.Below.{lowest, below};
 ghost use Rattle.lists.specs.Lists.{keep};
+ghost use Rattle.masks.specs.Bit.{bit};
 ghost use Rattle.masks.specs.MaskOf.{maskOf};
-ghost use Rattle.edition.specs.Limits.{two, mostEvents};
+ghost use Rattle.edition.specs.Limits.{two, mostEvents, maxLocations};
 ghost use Rattle.table.specs.Events.{capacity, memoryMask};
 ghost use Rattle.refusals.specs.Lines.{firstLine, whole, record-of};
-ghost use Rattle.refusals.specs.TableLines.{line7, line8, line9, line10, line11, textLine7, recordLines, tableLinesBy, tableLines};
+ghost use Rattle.refusals.specs.TableLines.{line7, line8, line9, line10, line11, line21, textLine7, recordLines, tableLinesBy};
 ghost use Rattle.refusals.specs.Refusals.{refusalOf};
 ghost use Rattle.table_lines.specs.AsBlock.{asBlock, AsBlock};
+ghost use Rattle.table_lines.specs.Used.{InTest, Touches};
 
 // Masks of the records: those that line 7 refuses, and line 8; the memory events.
 struct Marks {
@@ -132,11 +135,61 @@ fn refuse_records(t: Table) -> Refusal
     Refusal::None
 }
 
-// The first of lines 5 to 11 that holds; `most` is the number of events that the edition allows, `extra` what line 6 says of
-// bytes that are no field of the table.
-pub fn refuse(t: Table, most: usize, extra: bool) -> Refusal
+// The mask of the locations that memory events touch.
+fn touched(t: Table) -> u32
+    requires { ⌜ (t .count ≤ capacity) × (t .locations ≤ maxLocations) × InTest t ⌝ }
+    ensures { λ r. ⌜ Touches t (t .count) r ⌝ }
+{
+    let mut mask: u32 = 0;
+    let mut k: u8 = 0;
+    while k < t.count {
+        let e = t.events[k as usize];
+        let memory = table::memory(e);
+        mask = mask | one_if(memory, e.location.0);
+        k += 1;
+    }
+    mask
+}
+
+// Line 21, where `named` has the locations whose end is stated.
+pub fn line21(t: Table, named: u32) -> bool
+    requires { ⌜ (t .count ≤ capacity) × (t .locations ≤ maxLocations) × InTest t ⌝ }
+    ensures { λ r. ⌜ r ≡ line21 (bit named) t ⌝ }
+{
+    let used = touched(t) | named;
+    let mut x: u8 = 0;
+    while x < t.locations {
+        if !has(used, x as u32) {
+            return true;
+        }
+        x += 1;
+    }
+    false
+}
+
+// The first of lines 7 to 11 and 21 that holds.
+fn refuse_events(t: Table, named: u8) -> Refusal
+    requires { ⌜ (t .count ≤ capacity) × (t .locations ≤ maxLocations) ⌝ }
+    ensures { λ r. ⌜ refusalOf r ≡ firstLine (t .count) (recordLines t ++ (whole 21 (line21 (bit named) t) ∷ [])) ⌝ }
+{
+    let refusal = refuse_records(t);
+    match refusal {
+        Refusal::Line(n) => Refusal::Line(n),
+        Refusal::Record(n, k) => Refusal::Record(n, k),
+        Refusal::None => {
+            if line21(t, named as u32) {
+                return Refusal::Line(21);
+            }
+            Refusal::None
+        }
+    }
+}
+
+// The first of lines 5 to 11 and 21 that holds; `most` is the number of events that the edition allows, `extra` what line 6 says
+// of bytes that are no field of the table, `named` has the locations whose end is stated.
+pub fn refuse(t: Table, named: u8, most: usize, extra: bool) -> Refusal
     requires { ⌜ most ≤ capacity ⌝ }
-    ensures { λ r. ⌜ refusalOf r ≡ firstLine (t .count) (tableLines most extra t) ⌝ }
+    ensures { λ r. ⌜ refusalOf r ≡ firstLine (t .count) (tableLinesBy (line7 t) most extra t ++ (whole 21 (line21 (bit named) t) ∷ [])) ⌝ }
 {
     if whole_lines::line5(most, t.harts, t.locations, t.count, t.stated) {
         return Refusal::Line(5);
@@ -149,7 +202,7 @@ pub fn refuse(t: Table, most: usize, extra: bool) -> Refusal
     if extra | unused {
         return Refusal::Line(6);
     }
-    refuse_records(t)
+    refuse_events(t, named)
 }
 
 // No record may have it.
@@ -192,13 +245,16 @@ fn table_as_block(t: Table) -> Table
     }
 }
 
-// The first of lines 5 to 11 that holds of a text's table. They are asked of it as a block's: second callers of the functions above
-// would cost each block that is read further copies of its table.
+// A mask of all locations.
+const EVERY_LOCATION: u8 = 255;
+
+// The first of lines 5 to 11 that holds of a text's table; line 21 comes after the condition's own. They are asked of it as a
+// block's: second callers of the functions above would cost each block that is read further copies of its table.
 pub fn refuse_text(t: Table) -> Refusal
     ensures { λ r. ⌜ refusalOf r ≡ firstLine (t .count) (tableLinesBy (textLine7 t) (mostEvents two) false t) ⌝ }
 {
     if EditionTwo::EVENTS < t.count as usize {
         return Refusal::Line(5);
     }
-    refuse(table_as_block(t), EditionTwo::EVENTS, false)
+    refuse(table_as_block(t), EVERY_LOCATION, EditionTwo::EVENTS, false)
 }

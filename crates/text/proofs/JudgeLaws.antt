@@ -1,4 +1,4 @@
--- The answer for a legal text, by the first of lines 5 to 11 and 23.
+-- The answer for a legal text, by the first of lines 5 to 11, 23 and 21.
 use Prim.Native.Nat.{ℕ, _≤_, _<_}
 use mathlib.Core.Path.{_≡_, refl, sym, ap, subst, _∙_}
 use mathlib.Core.Bool.{Bool, true, false, _||_}
@@ -8,16 +8,19 @@ use native.Mathlib.Omega.{arith}
 use lib.Dec.{eqb, ltb}
 use borrow.Author.Tests.{lt-ltb}
 use Rattle.lists.specs.Lists.{any}
+use Rattle.lists.proofs.SomeLaws.{none-at}
+use Rattle.masks.specs.Bit.{bit}
 use Rattle.edition.specs.Limits.{two, mostEvents, maxHarts, maxLocations}
 use Rattle.table.specs.declared.Table.{Table}
 use Rattle.table.specs.Events.{capacity}
 use Rattle.refusals.specs.Lines.{Refused, accepted, byLine, Line, whole, firstLine, unless}
-use Rattle.refusals.specs.TableLines.{outside, statesMissing, headerWrong, line5, textLine7, tableLinesBy}
+use Rattle.refusals.specs.TableLines.{outside, statesMissing, headerWrong, line5, line21, textLine7, tableLinesBy}
 use Rattle.refusals.specs.declared.Refusal.the-variants.{None}
-use Rattle.refusals.proofs.InRange.{text-asks-range}
+use Rattle.refusals.proofs.InRange.{text-asks-range, places-in-range}
 use Rattle.refusals.proofs.LineLaws.{line-refuses, none-here, whole-here, whole-next, whole-off}
 use Rattle.refusals.proofs.PassedLaws.{passed-both, refused-first, passed-first, unless-refused}
 use Rattle.refusals.proofs.TablePassed.{TablePassed, table-passed-by}
+use Rattle.table_lines.specs.Used.{InTest}
 use Rattle.block.specs.Reading.{noTable}
 use Rattle.placing.specs.GoodTable.{GoodTable}
 use Rattle.placing.proofs.GoodTableLaws.{good-table}
@@ -25,7 +28,8 @@ use Rattle.text.specs.declared.TextRefusal.{TextRefusal}
 use Rattle.text.specs.declared.TextRefusal.the-variants as text
 use Rattle.text.specs.declared.TextReading.{TextReading}
 use Rattle.text.specs.TextRefusals.{textRefusalOf}
-use Rattle.text.specs.Judged.{wordUnknown, linesBehind, refusalBehind, Judged}
+use Rattle.text.specs.Judged.{wordUnknown, wordNames, Names, wordLines, linesBehind, refusalBehind, Judged}
+use Rattle.text.proofs.NamedLaws.{line21-same}
 
 -- a count that is too large is 5
 or-second : (a b : Bool) → b ≡ true → (a || b) ≡ true
@@ -77,6 +81,16 @@ module _ (t : Table) (ok : firstLine (t .count) (tableLinesBy (textLine7 t) (mos
   pub few-events : t .count ≤ capacity
   few-events = omega (arith, passed .counts .events)
 
+  pub few-locations : t .locations ≤ maxLocations
+  few-locations = passed .counts .locations
+
+  pub in-test : InTest t
+  in-test k l = places-in-range t k (text-asks-range t k (none-at (t .count) (textLine7 t) k (passed .fields) l)) .1
+
+  -- line 21 by the mask of the locations that words name
+  pub same-21 : (ws : List ℕ) (mask : ℕ) → Names ws mask → line21 (bit mask) t ≡ line21 (λ x. any (wordNames x) ws) t
+  same-21 ws mask h = line21-same t _ _ (λ x l. h x (omega (arith, l, few-locations)))
+
   good : GoodTable t
   good = good-table (textLine7 t) (mostEvents two) false t (text-asks-range t) (omega arith) passed
 
@@ -95,27 +109,34 @@ module _ (t : Table) (ws : List ℕ) where
 
   -- none of them
   module _ (ok : firstLine (t .count) lines ≡ accepted) where
-    pub by-23 : any (wordUnknown t) ws ≡ true → byLine 23 ≡ refusalBehind t ws
+    by-words : (q : Refused) → q ≡ firstLine (t .count) (wordLines t ws) → q ≡ refusalBehind t ws
     unfolding refusalBehind linesBehind
-    by-23 h = whole-here (t .count) 23 (any (wordUnknown t) ws) [] h ∙ sym (passed-first (t .count) lines _ ok)
+    by-words q h = h ∙ sym (passed-first (t .count) lines _ ok)
 
-    pub by-none : any (wordUnknown t) ws ≡ false → accepted ≡ refusalBehind t ws
-    unfolding refusalBehind linesBehind
-    by-none h =
-        whole-next (t .count) 23 (any (wordUnknown t) ws) [] accepted h (none-here (t .count))
-        ∙ sym (passed-first (t .count) lines _ ok)
+    pub by-23 : any (wordUnknown t) ws ≡ true → byLine 23 ≡ refusalBehind t ws
+    by-23 h = by-words _ (whole-here (t .count) 23 (any (wordUnknown t) ws) _ h)
+
+    module _ (known : any (wordUnknown t) ws ≡ false) where
+      pub by-21 : line21 (λ x. any (wordNames x) ws) t ≡ true → byLine 21 ≡ refusalBehind t ws
+      by-21 h = by-words _ (whole-next (t .count) 23 (any (wordUnknown t) ws) _ _ known (whole-here (t .count) 21 _ [] h))
+
+      pub by-none : line21 (λ x. any (wordNames x) ws) t ≡ false → accepted ≡ refusalBehind t ws
+      by-none h =
+          by-words _
+          (whole-next (t .count) 23 (any (wordUnknown t) ws) _ _ known
+          (whole-next (t .count) 21 _ [] accepted h (none-here (t .count))))
 
   -- what a text has that isn't refused
   module _ (ok : refusalBehind t ws ≡ accepted) where
-    both : (firstLine (t .count) lines ≡ accepted) × (firstLine (t .count) (whole 23 (any (wordUnknown t) ws) ∷ []) ≡ accepted)
+    both : (firstLine (t .count) lines ≡ accepted) × (firstLine (t .count) (wordLines t ws) ≡ accepted)
     unfolding refusalBehind linesBehind
-    both = passed-both (t .count) lines (whole 23 (any (wordUnknown t) ws) ∷ []) ok
+    both = passed-both (t .count) lines (wordLines t ws) ok
 
     pub good-behind : GoodTable t
     good-behind = good t (both .0)
 
     pub known-behind : any (wordUnknown t) ws ≡ false
-    known-behind = whole-off (t .count) 23 (any (wordUnknown t) ws) [] (both .1) .0
+    known-behind = whole-off (t .count) 23 (any (wordUnknown t) ws) _ (both .1) .0
 
   module _ (len : ℕ) where
     pub judged-refused : (r : TextReading) (q : TextRefusal) → (r .refusal ≡ q) × (r .table ≡ noTable)

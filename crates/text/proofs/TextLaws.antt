@@ -1,6 +1,6 @@
 -- What a text is refused by, once its parts are read; and what it has if it isn't.
 use Prim.Native.Nat.{ℕ, suc, max, _≤_, _<_}
-use mathlib.Core.Path.{_≡_, refl, sym, ap, subst, _∙_}
+use mathlib.Core.Path.{_≡_, refl, sym, ap, ap₂, subst, _∙_}
 use mathlib.Core.Bool.{Bool, true, false}
 use mathlib.Core.Logic.{_≢_, _⊎_, inl, inr, ⊎-elim}
 use mathlib.Core.List.{List, [], _∷_, _++_, map}
@@ -16,7 +16,7 @@ use Rattle.table.specs.declared.Table.{Table}
 use Rattle.table.specs.Events.{capacity}
 use Rattle.table.proofs.SameFields.{table-same}
 use Rattle.refusals.specs.Lines.{Refused, accepted, byLine, byPlace, whole, firstLine, unless}
-use Rattle.refusals.specs.TableLines.{line5, textLine7, tableLinesBy}
+use Rattle.refusals.specs.TableLines.{line5, line21, textLine7, tableLinesBy}
 use Rattle.refusals.proofs.LineLaws.{whole-here, whole-next, place-here, place-next}
 use Rattle.refusals.proofs.PassedLaws.{unless-refused}
 use Rattle.block.specs.Reading.{noTable}
@@ -30,16 +30,17 @@ use Rattle.text_format.proofs.ReadingLaws.{document-sound, form-fits}
 use Rattle.text_lines.specs.Lines.{eventOf, locationField}
 use Rattle.text_lines.proofs.ReadLaws.{then-then, then-same}
 use Rattle.condition_reader.specs.Words.{code}
-use Rattle.model.specs.Following.{namesUnknown}
+use Rattle.model.specs.Following.{namesUnknown, namesLocation}
 use Rattle.placing.specs.GoodTable.{GoodTable}
 use Rattle.text.specs.declared.TextRefusal.{TextRefusal}
 use Rattle.text.specs.declared.TextReading.{TextReading}
 use Rattle.text.specs.Texts.{documentOf, covering, column, tableOf, linesAs, textLines, textRefusal, textTable, conditionOf}
 use Rattle.text.specs.TextRefusals.{textRefusalOf}
-use Rattle.text.specs.Judged.{last, closing, outcomeIn, tableFrom, wordUnknown, linesBehind, refusalBehind, Judged}
+use Rattle.text.specs.Judged.{last, closing, outcomeIn, tableFrom, wordUnknown, wordNames, linesBehind, refusalBehind, Judged}
 use Rattle.text.specs.Accepted.{IfAccepted}
 use Rattle.text.proofs.CoverLaws.{all-kept, harts-of, locations-of}
 use Rattle.text.proofs.UnknownLaws.{words-unknown}
+use Rattle.text.proofs.NamedLaws.{words-named, line21-same}
 use Rattle.text.proofs.JudgeLaws.{events-over, judged-as, good-behind, known-behind}
 
 abbrev documented : List (List ℕ) → List ℕ → Condition → Document
@@ -131,17 +132,18 @@ module _ (s : List ℕ) (short : length s ≤ maxText) where
       By : ℕ → Type 0
       By m = byPlace m (placeOf s (drop p s)) ≡ refusalAs s (breach m (drop p s))
 
-  -- a legal text: lines 5 to 11 and 23 decide
+  -- a legal text: lines 5 to 11, 23 and 21 decide
   module _ (d : Document) (e : document s ≡ got d []) where
     fitting : fits (d .outcome) ≡ true
     fitting = form-fits maxLevels d (document-sound maxLevels s d [] e .0)
 
-    -- lines 5 to 11, and 23, which holds or not
-    abbrev decidedBy : Bool → Refused
-    decidedBy b =
-        let t = tableOf d in firstLine (t .count) (tableLinesBy (textLine7 t) (mostEvents two) false t ++ (whole 23 b ∷ []))
+    -- lines 5 to 11, and 23 and 21, which hold or not
+    abbrev decidedBy : Bool → Bool → Refused
+    decidedBy b c =
+        let t = tableOf d in
+        firstLine (t .count) (tableLinesBy (textLine7 t) (mostEvents two) false t ++ (whole 23 b ∷ whole 21 c ∷ []))
 
-    legal-lines : textRefusal s ≡ decidedBy (namesUnknown (tableOf d) (d .outcome))
+    legal-lines : textRefusal s ≡ decidedBy (namesUnknown (tableOf d) (d .outcome)) (line21 (namesLocation (d .outcome)) (tableOf d))
     unfolding refusalAs linesAs
     legal-lines =
         reads-as s ∙ ap (refusalAs s) e
@@ -153,9 +155,12 @@ module _ (s : List ℕ) (short : length s ≤ maxText) where
       same-unknown : any (wordUnknown (tableOf d)) ws ≡ namesUnknown (tableOf d) (d .outcome)
       same-unknown = ap (any (wordUnknown (tableOf d))) q ∙ words-unknown (tableOf d) (d .outcome) fitting
 
+      same-unused : line21 (λ x. any (wordNames x) ws) (tableOf d) ≡ line21 (namesLocation (d .outcome)) (tableOf d)
+      same-unused = line21-same (tableOf d) _ _ (λ x l. ap (any (wordNames x)) q ∙ words-named x (d .outcome) fitting)
+
       behind : textRefusal s ≡ refusalBehind (tableOf d) ws
       unfolding refusalBehind linesBehind
-      behind = legal-lines ∙ ap decidedBy (sym same-unknown)
+      behind = legal-lines ∙ ap₂ decidedBy (sym same-unknown) (sym same-unused)
 
 abbrev pub Answers : List ℕ → List ℕ → TextReading → Type 0
 Answers s words r =

@@ -50,7 +50,7 @@ slot-same t w h =
 -- a loop over the words
 module _ (p : ℕ → Bool) (l : List ℕ) (n i : ℕ) (long : n ≤ length l) where
   module _ (h : i < n) where
-    at-word : any p (drop i (take n l)) ≡ (p (getD l i 0) || any p (drop (i + 1) (take n l)))
+    pub at-word : any p (drop i (take n l)) ≡ (p (getD l i 0) || any p (drop (i + 1) (take n l)))
     at-word =
         ap (any p) (here (take n l) i (omega (arith, h, length-take-le n l long)))
         ∙ ap (λ (x : ℕ). p x || any p (drop (i + 1) (take n l))) (getD-take n l i 0 h)
@@ -72,6 +72,40 @@ any-append p (x ∷ l) m = ap (λ (b : Bool). p x || b) (any-append p l m) ∙ a
     assoc true b c = refl
     assoc false b c = refl
 
+pub one : (b : Bool) → (b || false) ≡ b
+one true = refl
+one false = refl
+
+-- what a condition names: a test of words that no connective passes, and of conditions, alike on atoms
+pub record Alike (p : ℕ → Bool) (f : Condition → Bool) : Type 0 where
+  pub joint : (w : ℕ) → 1 < kindIn w → p w ≡ false
+  pub at-event : (e v : ℕ) → e ≤ maxNumber → p (nodeWord returnsNode e v) ≡ f (returns e v)
+  pub at-location : (x v : ℕ) → x ≤ maxNumber → p (nodeWord endsNode x v) ≡ f (ends x v)
+  pub of-negated : (c : Condition) → f (negated c) ≡ f c
+  pub of-both : (l r : Condition) → f (both l r) ≡ (f l || f r)
+  pub of-either : (l r : Condition) → f (either l r) ≡ (f l || f r)
+
+module _ (p : ℕ → Bool) (f : Condition → Bool) (a : Alike p f) where
+  joined : (l r : Condition) (w : ℕ) → 1 < kindIn w → any p (code l ++ (w ∷ code r)) ≡ (any p (code l) || any p (code r))
+  joined l r w h =
+      any-append p (code l) (w ∷ code r) ∙ ap (λ (b : Bool). any p (code l) || (b || any p (code r))) (a .joint w h)
+
+  -- the words of a condition pass as it does
+  pub words-alike : (c : Condition) → fits c ≡ true → any p (code c) ≡ f c
+  unfolding code
+  words-alike (returns e v) h = one _ ∙ a .at-event e v (leb-true e maxNumber (and-l (leb e maxNumber) (leb v maxValue) h))
+  words-alike (ends x v) h = one _ ∙ a .at-location x v (leb-true x maxNumber (and-l (leb x maxNumber) (leb v maxValue) h))
+  words-alike (negated c) h =
+      any-append p (code c) (notNode ∷ [])
+      ∙ ap (λ (b : Bool). any p (code c) || (b || false)) (a .joint notNode (omega arith))
+      ∙ one (any p (code c)) ∙ words-alike c h ∙ sym (a .of-negated c)
+  words-alike (both l r) h =
+      joined l r (skipWord andNode (length (code r))) (omega arith)
+      ∙ rw (words-alike l (and-l (fits l) (fits r) h), words-alike r (and-r (fits l) (fits r) h)) (sym (a .of-both l r))
+  words-alike (either l r) h =
+      joined l r (skipWord orNode (length (code r))) (omega arith)
+      ∙ rw (words-alike l (and-l (fits l) (fits r) h), words-alike r (and-r (fits l) (fits r) h)) (sym (a .of-either l r))
+
 module _ (t : Table) where
   -- a connective names nothing
   joint-known : (w : ℕ) → 1 < kindIn w → wordUnknown t w ≡ false
@@ -79,12 +113,6 @@ module _ (t : Table) where
   joint-known w h =
       sym (unknown-other (t .count) (t .locations) (event t (numberIn w)) w (λ e. absurd (omega (arith, h, e))))
       ∙ ap (λ (b : Bool). b && leb (t .locations) (numberIn w)) (ne-eqb (kindIn w) endsNode (λ e. absurd (omega (arith, h, e))))
-
-  joined : (l r : Condition) (w : ℕ) → 1 < kindIn w → any (wordUnknown t) (code l ++ (w ∷ code r))
-      ≡ (any (wordUnknown t) (code l) || any (wordUnknown t) (code r))
-  joined l r w h =
-      any-append (wordUnknown t) (code l) (w ∷ code r)
-      ∙ ap (λ (b : Bool). any (wordUnknown t) (code l) || (b || any (wordUnknown t) (code r))) (joint-known w h)
 
   returns-known : (e v : ℕ) → e ≤ maxNumber → wordUnknown t (nodeWord returnsNode e v) ≡ not (ltb e (t .count) && reads t e)
   unfolding wordUnknown reads kind
@@ -110,22 +138,17 @@ module _ (t : Table) where
       sym (unknown-other (t .count) (t .locations) (event t (numberIn w)) w (λ e. absurd (omega (arith, k, e))))
       ∙ ap (λ (b : Bool). b && leb (t .locations) (numberIn w)) (eq-eqb (kindIn w) endsNode k) ∙ ap (leb (t .locations)) n
 
-  one : (b : Bool) → (b || false) ≡ b
-  one true = refl
-  one false = refl
-
-  -- of the words of a whole condition
+  -- 23 of the words is 23 of the condition
   pub words-unknown : (c : Condition) → fits c ≡ true → any (wordUnknown t) (code c) ≡ namesUnknown t c
-  unfolding code namesUnknown
-  words-unknown (returns e v) h = one _ ∙ returns-known e v (leb-true e maxNumber (and-l (leb e maxNumber) (leb v maxValue) h))
-  words-unknown (ends x v) h = one _ ∙ ends-known x v (leb-true x maxNumber (and-l (leb x maxNumber) (leb v maxValue) h))
-  words-unknown (negated c) h =
-      any-append (wordUnknown t) (code c) (notNode ∷ [])
-      ∙ ap (λ (b : Bool). any (wordUnknown t) (code c) || (b || false)) (joint-known notNode (omega arith))
-      ∙ one (any (wordUnknown t) (code c)) ∙ words-unknown c h
-  words-unknown (both l r) h =
-      joined l r (skipWord andNode (length (code r))) (omega arith)
-      ∙ rw (words-unknown l (and-l (fits l) (fits r) h), words-unknown r (and-r (fits l) (fits r) h)) refl
-  words-unknown (either l r) h =
-      joined l r (skipWord orNode (length (code r))) (omega arith)
-      ∙ rw (words-unknown l (and-l (fits l) (fits r) h), words-unknown r (and-r (fits l) (fits r) h)) refl
+  unfolding namesUnknown
+  words-unknown c h = words-alike (wordUnknown t) (namesUnknown t) alike c h
+    where
+      alike : Alike (wordUnknown t) (namesUnknown t)
+      alike = record {
+        joint = joint-known;
+        at-event = returns-known;
+        at-location = ends-known;
+        of-negated = λ c. refl;
+        of-both = λ l r. refl;
+        of-either = λ l r. refl;
+      }

@@ -1,17 +1,18 @@
 -- What the answers of the readers and of the tests say of the definitions.
-use Prim.Native.Nat.{ℕ, _/_, _%_, _≤_, max}
+use Prim.Native.Nat.{ℕ, _/_, _%_, _≤_, _<_, max}
 use mathlib.Core.Path.{_≡_}
 use mathlib.Core.Bool.{Bool, false, cond, not, _&&_, _||_}
 use mathlib.Core.List.{List, [], _∷_, _++_, map}
 use lib.ListN.{length, take, drop, replicate}
 use lib.Dec.{eqb, leb}
 use Rattle.lists.specs.Lists.{any}
+use Rattle.masks.specs.Bit.{bit}
 use Rattle.edition.specs.Limits.{two, mostEvents, maxLocations}
 use Rattle.table.specs.declared.Event.{Event}
 use Rattle.table.specs.declared.Table.{Table}
-use Rattle.table.specs.Events.{event, readingKind}
+use Rattle.table.specs.Events.{capacity, event, readingKind}
 use Rattle.refusals.specs.Lines.{Refused, accepted, Line, whole, firstLine, unless}
-use Rattle.refusals.specs.TableLines.{textLine7, tableLinesBy}
+use Rattle.refusals.specs.TableLines.{textLine7, line21, tableLinesBy}
 use Rattle.block.specs.Reading.{noTable}
 use Rattle.text_format.specs.Bytes.{newline}
 use Rattle.text_format.specs.Condition.{Condition, maxLevels}
@@ -76,9 +77,21 @@ unknownBy count locations e w =
 unfoldable pub wordUnknown : Table → ℕ → Bool
 wordUnknown t w = unknownBy (t .count) (t .locations) (event t (numberIn w)) w
 
--- lines 5 to 11, and 23 of the words of a condition
+-- an atom's word names location x
+unfoldable pub wordNames : ℕ → ℕ → Bool
+wordNames x w = eqb (kindIn w) endsNode && eqb (numberIn w) x
+
+-- the mask of the locations that words name, of those that a mask has room for
+abbrev pub Names : List ℕ → ℕ → Type 0
+Names ws mask = (x : ℕ) → x < capacity → bit mask x ≡ any (wordNames x) ws
+
+-- 23 and 21 of the words of a condition
+abbrev pub wordLines : Table → List ℕ → List Line
+wordLines t ws = whole 23 (any (wordUnknown t) ws) ∷ whole 21 (line21 (λ x. any (wordNames x) ws) t) ∷ []
+
+-- lines 5 to 11 before these
 unfoldable pub linesBehind : Table → List ℕ → List Line
-linesBehind t ws = tableLinesBy (textLine7 t) (mostEvents two) false t ++ (whole 23 (any (wordUnknown t) ws) ∷ [])
+linesBehind t ws = tableLinesBy (textLine7 t) (mostEvents two) false t ++ wordLines t ws
 
 unfoldable pub refusalBehind : Table → List ℕ → Refused
 refusalBehind t ws = firstLine (t .count) (linesBehind t ws)

@@ -9,13 +9,13 @@ use Rattle.edition.specs.Limits.{two, mostEvents, maxLocations}
 use Rattle.table.specs.declared.Table.{Table}
 use Rattle.table.specs.Events.{capacity}
 use Rattle.refusals.specs.Lines.{Refused, Line, whole, place-of, firstLine, unless}
-use Rattle.refusals.specs.TableLines.{textLine7, tableLinesBy}
+use Rattle.refusals.specs.TableLines.{textLine7, line21, tableLinesBy}
 use Rattle.block.specs.Reading.{noTable}
 use Rattle.text_format.specs.Condition.{Condition, returns}
 use Rattle.text_format.specs.Document.{Document, maxText}
 use Rattle.text_format.specs.Reading.{Read, got, breach, placeOf, document}
 use Rattle.text_lines.specs.Lines.{hartField, locationField, eventOf}
-use Rattle.model.specs.Following.{namesUnknown}
+use Rattle.model.specs.Following.{namesUnknown, namesLocation}
 
 -- a text that isn't legal has no events, values or condition to speak of
 abbrev pub unread : Document
@@ -59,7 +59,7 @@ tableOf d = record {
 }
 
 -- the lines of a text s that reads as x, in their order: 1; "The first breach decides", 20 or 19; "Then 5 to 11 follow on the
--- table .., and then 23"
+-- table .., and then 23"; 21 is "checked .. in texts after 23"
 unfoldable pub linesAs : List ℕ → Read Document → List Line
 linesAs s x =
     let d = documentOf x in
@@ -67,7 +67,8 @@ linesAs s x =
     whole 1 (ltb maxText (length s))
     ∷ place-of 19 (breachPlace s x) (breaches 19 x)
     ∷ place-of 20 (breachPlace s x) (breaches 20 x)
-    ∷ (tableLinesBy (textLine7 t) (mostEvents two) false t ++ (whole 23 (namesUnknown t (d .outcome)) ∷ []))
+    ∷ (tableLinesBy (textLine7 t) (mostEvents two) false t
+    ++ (whole 23 (namesUnknown t (d .outcome)) ∷ whole 21 (line21 (namesLocation (d .outcome)) t) ∷ []))
 
 unfoldable pub textLines : List ℕ → List Line
 textLines s = linesAs s (document s)

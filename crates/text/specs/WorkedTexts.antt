@@ -9,7 +9,7 @@ use Rattle.text_format.specs.Bytes.{bytes}
 use Rattle.text_format.specs.Worked as format
 use Rattle.text_lines.specs.Lines.{eventOf}
 use Rattle.model.specs.Computes as model
-use Rattle.model.specs.Following.{namesUnknown}
+use Rattle.model.specs.Following.{namesUnknown, namesLocation}
 use Rattle.text.specs.Texts.{tableOf, linesAs, textLines, textRefusal, textTable}
 
 -- a text and its refusal; a text that is accepted, and how many harts, locations and events its table has
@@ -29,15 +29,16 @@ Every (c ∷ cs) = Right c × Every cs
 
 -- the definitions that a case computes by
 unfoldable pub computes : Unit {0}
-unfolding format.computes model.computes upTo eventOf namesUnknown tableOf linesAs textLines textRefusal textTable
+unfolding format.computes model.computes upTo eventOf namesUnknown namesLocation tableOf linesAs textLines textRefusal textTable
 computes = tt
 
 abbrev pub worked : List Case
 worked =
     stands "1 0 0 0 0 0 0 0 0 0 0\n\n0\nr0=0\n" 1 1 1
     -- as many harts as the largest number asks for, and locations as the fields or the values do
-    ∷ stands "2 3 2 0 0 0 0 0 1 0 0\n1 1 0 0 0 0 0 0 0 0 0\n\n0\n( r1=0 or x2=1 )\n" 4 3 2
-    ∷ stands "1 0 0 0 0 0 0 0 0 0 0\n\n0 0 0 0 0 0 0 0\nx7=0\n" 1 8 1
+    ∷ stands "2 3 2 0 0 0 0 0 1 0 0\n1 1 0 0 0 0 0 0 0 0 0\n\n0\n( r1=0 or x1=1 )\n" 4 3 2
+    ∷ stands "1 0 0 0 0 0 0 0 0 0 0\n1 0 1 0 0 0 0 0 0 0 0\n\n0 0 0\nx2=0\n" 1 3 2
+    ∷ stands "1 0 7 0 0 0 0 0 0 0 0\n\n0\n( ( ( x0=0 and x1=0 ) and ( x2=0 or x3=0 ) ) and ( not ( x4=0 and x5=0 ) and x6=0 ) )\n" 1 8 1
     -- a breach, before anything is asked of the table
     ∷ refused "" (byPlace 19 0)
     ∷ refused "\n0\nr256=0\n" (byPlace 19 6)
@@ -65,4 +66,12 @@ worked =
     -- 23 comes after 7 and after 11
     ∷ refused "1 0 0 0 0 0 0 1 0 0 0\n\n0\nr9=0\n" (byRecord 7 0)
     ∷ refused "6 0 0 15 0 0 0 0 0 0 0\n\n0\nr0=0\n" (byLine 11)
+    -- 21: a location that only an initial value names, or a fence; one below the largest; though another is named
+    ∷ refused "1 0 0 0 0 0 0 0 0 0 0\n\n0 0\nr0=0\n" (byLine 21)
+    ∷ refused "1 0 1 0 0 0 0 0 0 0 0\n6 0 0 15 0 0 0 0 0 0 0\n\n0\nr0=0\n" (byLine 21)
+    ∷ refused "1 0 2 0 0 0 0 0 0 0 0\n\n0\n( x0=0 and r0=0 )\n" (byLine 21)
+    ∷ stands "1 0 0 0 0 0 0 0 0 0 0\n\n0 0\nx1=5\n" 1 2 1
+    -- 21 comes after 11 and after 23
+    ∷ refused "6 0 0 15 0 0 0 0 0 0 0\n\n0 0\nr0=0\n" (byLine 11)
+    ∷ refused "1 0 0 0 0 0 0 0 0 0 0\n\n0 0\nr1=0\n" (byLine 23)
     ∷ []

@@ -3,6 +3,7 @@ use condition_reader::Found;
 use condition_reader::Step;
 use edition::EditionOne;
 use edition::EditionTwo;
+use masks::one_if;
 use refusals::Refusal;
 use table::CAPACITY;
 use table::Event;
@@ -20,7 +21,7 @@ ghost use Rattle.text_format.specs.Document.{maxText};
 ghost use Rattle.condition_reader.specs.Words.{maxWords};
 ghost use Rattle.text.specs.Texts.{covering, textRefusal, textTable};
 ghost use Rattle.text.specs.TextRefusals.{textRefusalOf};
-ghost use Rattle.text.specs.Judged.{ClosingSays, OutcomeSays, tableFrom, unknownBy, wordUnknown, Judged};
+ghost use Rattle.text.specs.Judged.{ClosingSays, OutcomeSays, tableFrom, unknownBy, wordUnknown, Names, Judged};
 ghost use Rattle.text.specs.Accepted.{IfAccepted};
 
 // The longest text.
@@ -152,7 +153,24 @@ fn names_unknown(t: Table, words: &[u32], len: usize) -> bool
     false
 }
 
-// Lines 5 to 11 and 23 of a legal text with this table.
+// The mask of the locations that words name; one past the slots isn't in the test.
+fn named_locations(words: &[u32], len: usize) -> u32
+    requires { ⌜ len ≤ length (now words) ⌝ }
+    ensures { λ r. ⌜ Names (take len (now (words .entry))) r ⌝ }
+{
+    let mut mask: u32 = 0;
+    let mut i: usize = 0;
+    while i < len {
+        let word = words[i];
+        let number = ((word / BYTES) % BYTES) as usize;
+        let names = (word % BYTES == condition_reader::ENDS) & (number < CAPACITY);
+        mask = mask | one_if(names, (number % CAPACITY) as u8);
+        i += 1;
+    }
+    mask
+}
+
+// Lines 5 to 11, 23 and 21 of a legal text with this table.
 fn judge(t: Table, words: &[u32], len: usize) -> TextReading
     requires { ⌜ len ≤ length (now words) ⌝ }
     ensures { λ r. ⌜ Judged t (take len (now (words .entry))) len r ⌝ }
@@ -164,6 +182,9 @@ fn judge(t: Table, words: &[u32], len: usize) -> TextReading
         Refusal::None => {
             if names_unknown(t, words, len) {
                 return refused(TextRefusal::Table(Refusal::Line(23)));
+            }
+            if table_lines::line21(t, named_locations(words, len)) {
+                return refused(TextRefusal::Table(Refusal::Line(21)));
             }
             TextReading {
                 refusal: TextRefusal::Table(Refusal::None),

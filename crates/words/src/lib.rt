@@ -29,7 +29,7 @@ the allowance is above 1,000,000,000
 the suite has no block of that number
 no legal text has this byte in this place, or the text ends too soon
 a `not` or a bracket begins a ninth level here, and a condition has at most eight
-
+a location of the test is touched by no memory event, and its final value isn't stated (in a text: the condition doesn't name it)
 
 the condition names an event that doesn't read, or a location that isn't in the test
 ";

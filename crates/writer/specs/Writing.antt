@@ -1,4 +1,4 @@
--- Writing a block: refusals 1 and 5 to 11, and the bytes.
+-- Writing a block: refusals 1, 5 to 11 and 21, and the bytes.
 use Prim.Native.Nat.{ℕ}
 use mathlib.Core.Bool.{Bool, false, not}
 use mathlib.Core.List.{List, _∷_}

@@ -1,4 +1,4 @@
-// Writing a block: refusals 1 and 5 to 11, and the bytes.
+// Writing a block: refusals 1, 5 to 11 and 21, and the bytes.
 use edition::EditionOne;
 use refusals::Refusal;
 use table::Table;
@@ -26,7 +26,7 @@ fn write_whole(t: Table, out: &mut [u8]) -> Refusal
     ensures { λ r. ⌜ refusalOf r ≡ writeRefusal t (now (out .entry)) ⌝ }
     ensures { λ r. ⌜ now (out .exit) ≡ writtenBlock t (now (out .entry)) ⌝ }
 {
-    let refusal = table_lines::refuse(t, EditionOne::EVENTS, false);
+    let refusal = table_lines::refuse(t, t.stated, EditionOne::EVENTS, false);
     match refusal {
         Refusal::None => {
             copy(encode::encode(t), out);
@@ -37,7 +37,7 @@ fn write_whole(t: Table, out: &mut [u8]) -> Refusal
     }
 }
 
-// Any table and any buffer: the lowest refusal of 1 and 5 to 11, or the table's block in the buffer.
+// Any table and any buffer: the lowest refusal of 1, 5 to 11 and 21, or the table's block in the buffer.
 pub fn write(t: Table, out: &mut [u8]) -> Refusal
     ensures { λ r. ⌜ refusalOf r ≡ writeRefusal t (now (out .entry)) ⌝ }
     ensures { λ r. ⌜ now (out .exit) ≡ writtenBlock t (now (out .entry)) ⌝ }

@@ -1,5 +1,5 @@
-//! One valid table of edition 1, and for each clause of the lines 3 to 10 changes of its block's bytes
-//! that break the clause.
+//! One valid table of edition 1, and for each clause of the lines 3 to 10 and 21 changes of its block's
+//! bytes that break the clause.
 
 use super::damage::Change;
 use crate::encode::{encode, seal};
@@ -77,6 +77,8 @@ pub fn breaches() -> Vec<Breach> {
         let breach = |&(record, changes)| Breach { line, record: Some(record), changes };
         all.extend(breaches.iter().map(breach));
     }
+    let line = Line::UnusedLocation;
+    all.extend(UNUSED_BREACHES.iter().map(|&changes| Breach { line, record: None, changes }));
     all
 }
 
@@ -377,6 +379,41 @@ const PAIRING_BREACHES: RecordBreaches = &[
     (9, &[(record_at(9) + KIND, 5), (record_at(9) + READ, 0)]),
     // LR, SC, SC.
     (11, &[(record_at(11) + KIND, 5), (record_at(11) + LOCATION, 3), (record_at(11) + FLAGS, 0)]),
+];
+
+const UNUSED_BREACHES: &[&[Change]] = &[
+    // The only event of location 4 goes to another, or is a fence.
+    &[(record_at(8) + LOCATION, 1)],
+    &[
+        (record_at(8) + KIND, 6),
+        (record_at(8) + LOCATION, 0),
+        (record_at(8) + FLAGS, 0),
+        (record_at(8) + CONTROL, 0),
+        (record_at(8) + WRITTEN, 0),
+    ],
+    // Nothing is left at location 1; at location 3, whose initial value isn't 0; at both.
+    &[(record_at(1) + LOCATION, 0), (record_at(11) + LOCATION, 4)],
+    &[
+        (record_at(7) + LOCATION, 4),
+        (record_at(9) + LOCATION, 2),
+        (record_at(10) + LOCATION, 2),
+        (record_at(12) + LOCATION, 1),
+    ],
+    &[
+        (record_at(1) + LOCATION, 0),
+        (record_at(7) + LOCATION, 4),
+        (record_at(9) + LOCATION, 2),
+        (record_at(10) + LOCATION, 2),
+        (record_at(11) + LOCATION, 4),
+        (record_at(12) + LOCATION, 0),
+    ],
+    // Nothing is left at location 2, and its final value isn't stated any more.
+    &[
+        (STATED_AT, 0b001),
+        (final_at(2), 0),
+        (record_at(2) + LOCATION, 3),
+        (record_at(5) + LOCATION, 3),
+    ],
 ];
 
 #[cfg(test)]

@@ -9,9 +9,10 @@ use super::operations::{mixed_operation_cases, operation_cases};
 use super::orders::*;
 use super::prng::Prng;
 use super::random::random_table;
+use super::unused::{stated_ends, unused_cases, unused_in_two};
 use crate::candidate::{encode_entry, INITIAL, NON_READER};
 use crate::candidates::{LEND, RETURNED, RULES, VERDICT};
-use crate::encode::{encode, encode_fitting};
+use crate::encode::{encode, encode_fitting, encode_in};
 use crate::layout::one::MAX_EVENTS;
 use crate::layout::*;
 use crate::litmus::{self, *};
@@ -97,7 +98,48 @@ pub fn make_candidates() -> Calls {
         both_entries(&mut calls, case.name, &case.table, &case.order);
     }
     candidates_in_two(&mut calls, &mut prng);
+    unused_locations(&mut calls);
     calls
+}
+
+/// Line 21 with lists that are right, and with breaches of the lines 12, 13, 14 and 16, which come
+/// after it; then tests that state where an untouched location ends.
+fn unused_locations(calls: &mut Calls) {
+    for (name, test) in unused_cases() {
+        for edition in Edition::ALL {
+            calls.lend(&encode_in(edition, &test));
+            refused_calls(calls, name, &test);
+        }
+    }
+    for (name, test) in unused_in_two() {
+        calls.lend(&encode_in(Edition::Two, &test));
+        refused_calls(calls, name, &test);
+    }
+    for (name, test) in stated_ends() {
+        every_order(calls, name, &test);
+        every_pair(calls, name, &test);
+    }
+}
+
+/// Calls of all entries on a test that is refused: with good lists and a good buffer, and with ones
+/// that the later lines refuse.
+fn refused_calls(calls: &mut Calls, name: &str, table: &Table) {
+    let order = bytes(&table.memory_events());
+    let returned = returned_list(table, &table.memory_events());
+    let (longer, doubled) = ([&order[..], &[0]].concat(), vec![order[0]; order.len()]);
+    let wrong = vec![table.events.len() as u8; returned.len()];
+    calls.verdict(name, &returned, &order);
+    calls.verdict(&format!("{name}-and-order-length"), &returned, &longer);
+    calls.verdict(&format!("{name}-and-returned-length"), &returned[1..], &order);
+    calls.verdict(&format!("{name}-and-order"), &returned, &doubled);
+    calls.verdict(&format!("{name}-and-entries"), &wrong, &order);
+    calls.returned(name, &order, returned.len());
+    calls.returned(&format!("{name}-and-order-length"), &longer, returned.len());
+    calls.returned(&format!("{name}-and-order"), &doubled, returned.len());
+    calls.returned(&format!("{name}-and-buffer"), &order, 0);
+    calls.rules(name, &returned, 0, 1);
+    calls.rules(&format!("{name}-and-returned-length"), &returned[1..], 0, 1);
+    calls.rules(&format!("{name}-and-entries"), &wrong, 0, u64::MAX);
 }
 
 /// Candidates of tables with more events than edition 1 has room for.
@@ -351,7 +393,7 @@ fn numbers_of_no_event(calls: &mut Calls) {
     }
 }
 
-/// Lines 1 to 11, each with lists that are right and with an order and a buffer too short.
+/// Lines 1 to 11 and 21, each with lists that are right and with an order and a buffer too short.
 fn reading_refusals(calls: &mut Calls) {
     let mut wrong_check = base_block();
     wrong_check[CHECK_AT] ^= 1;
@@ -606,6 +648,20 @@ mod tests {
             answers().into_iter().filter(|(name, _)| name == "c5-rules-2-and-3").collect();
         let said: Vec<&str> = named.iter().map(|(_, answer)| answer.as_str()).collect();
         assert_eq!(said, ["rules 2 3", "preserved order 0 1 rules 2 3"]);
+    }
+
+    #[test]
+    fn line_21_comes_before_those_of_lists_and_buffers() {
+        let answers = answers();
+        let unused: Vec<_> =
+            answers.iter().filter(|(name, _)| name.starts_with("unused")).collect();
+        assert!(unused.len() >= 500, "{}", unused.len());
+        for (name, answer) in unused {
+            assert!(answer.starts_with("refused 21"), "{name}: {answer}");
+        }
+        for (name, answer) in &answers {
+            assert!(!name.starts_with("untouched") || !answer.starts_with("refused"), "{name}");
+        }
     }
 
     #[test]

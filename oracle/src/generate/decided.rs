@@ -26,15 +26,16 @@ pub fn decided() -> Vec<Decided> {
     families.into_iter().flatten().collect()
 }
 
-/// Hart 0 has the events given, then a load of z that reads 0 and waits for event b. Hart 1 stores
-/// to z, then 2 to x, which event 0 reads: so b stands before event 0, if nothing is against it.
+/// Hart 0 has the events given, then a load of a further location that reads 0 and waits for event b.
+/// Hart 1 stores to that one, then 2 to x, which event 0 reads: so b stands before event 0, if nothing
+/// is against it.
 fn read_early(name: &'static str, events: Vec<Event>, b: usize, broken: Option<Axiom>) -> Decided {
-    let last = events.len();
-    let (z, x) = (last + 1, last + 3);
+    let (last, further) = (events.len(), table(events.clone()).locations);
+    let (first_store, second_store) = (last + 1, last + 3);
     let others = (0..last).filter(|&event| event != b).collect();
-    let order = [vec![b, last, z, x], others].concat();
-    let waiting = load(0, Z, 0).address_from(b);
-    let foreign = vec![store(1, Z, 1), fence(1, FULL), store(1, X, 2)];
+    let order = [vec![b, last, first_store, second_store], others].concat();
+    let waiting = load(0, further, 0).address_from(b);
+    let foreign = vec![store(1, further, 1), fence(1, FULL), store(1, X, 2)];
     Decided { name, table: table([events, vec![waiting], foreign].concat()), order, broken }
 }
 

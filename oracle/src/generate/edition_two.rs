@@ -37,8 +37,8 @@ pub fn readings_in_two() -> Vec<Vec<u8>> {
     families.concat()
 }
 
-/// For each of the lines 1 to 11 a test that it refuses: with edition 2 in its header, or for line 4
-/// as long as such a test.
+/// For each of the lines 1 to 11 and 21 a test that it refuses: with edition 2 in its header, or for
+/// line 4 as long as such a test.
 pub fn refused_by_each_line() -> Vec<Vec<u8>> {
     let tests = readings_in_two();
     let is_of_two = |test: &&Vec<u8>| test.get(EDITION_AT) == Some(&(Edition::Two as u8));
@@ -49,7 +49,8 @@ pub fn refused_by_each_line() -> Vec<Vec<u8>> {
         let first = refused.clone().find(is_of_two);
         first.or_else(|| refused.find(is_as_long)).cloned()
     };
-    (Line::Length as u8..=Line::NoMemoryEvent as u8).filter_map(refused_by).collect()
+    let lines = Line::Length as u8..=Line::NoMemoryEvent as u8;
+    lines.chain([Line::UnusedLocation as u8]).filter_map(refused_by).collect()
 }
 
 /// A table's test with bytes changed, and checks that are right.
@@ -140,11 +141,13 @@ fn limits() -> Vec<Vec<u8>> {
     });
     let stated = [0, 1, 15, 16, 17, 29, 31, 32, 200, 255].map(|count| (EVENTS_AT, count));
     let numbers = [(HARTS_AT, 0), (HARTS_AT, 4), (HARTS_AT, 5), (HARTS_AT, 255)];
+    // Eight locations, of which seven are stated, or not.
+    let eight = changed(&full, &[(LOCATIONS_AT, 8), (STATED_AT, 254)]);
     let locations = [(LOCATIONS_AT, 0), (LOCATIONS_AT, 8), (LOCATIONS_AT, 9), (LOCATIONS_AT, 255)];
     let masks = [(STATED_AT, 0b1), (STATED_AT, 0b10), (STATED_AT, 255)];
     let changes = [&stated[..], &numbers, &locations, &masks].concat();
     let changed = changes.into_iter().map(|change| changed(&full, &[change]));
-    counts.into_iter().chain(of_one).chain(changed).collect()
+    counts.into_iter().chain(of_one).chain([eight]).chain(changed).collect()
 }
 
 /// Each run of bytes that are zero, hit at its first and at its last byte. The table has two
@@ -173,10 +176,10 @@ fn zeros() -> Vec<Vec<u8>> {
     past.chain(tens).collect()
 }
 
-/// The base's breaches of the lines 7 to 10, by turns in the second block and in the third.
+/// The base's breaches of the lines 7 to 10 and 21, by turns in the second block and in the third.
 fn record_breaches() -> Vec<Vec<u8>> {
     let mut of_records = breaches();
-    of_records.retain(|breach| breach.record.is_some());
+    of_records.retain(|breach| breach.line as u8 >= Line::Fields as u8);
     let fences = [0, FENCES].into_iter().cycle();
     of_records.iter().zip(fences).map(|(breach, fences)| in_two(&broken(breach), fences)).collect()
 }
@@ -280,7 +283,7 @@ mod tests {
         let readings: Vec<_> = readings_in_two().iter().map(|test| read(test)).collect();
         let lines = readings.iter().filter_map(|reading| reading.as_ref().err());
         let met: Vec<u8> = lines.map(|refusal| refusal.line as u8).collect();
-        for line in 1..=11 {
+        for line in (1..=11).chain([21]) {
             assert!(met.iter().filter(|&&number| number == line).count() >= 2, "line {line}");
         }
         assert!(readings.iter().filter(|reading| reading.is_ok()).count() >= 60);

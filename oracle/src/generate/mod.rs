@@ -20,6 +20,7 @@ pub mod suites;
 pub mod text_calls;
 pub mod text_cases;
 pub mod texts;
+pub mod unused;
 pub mod walks;
 pub mod writes;
 

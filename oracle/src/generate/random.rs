@@ -58,7 +58,19 @@ pub fn random_table(prng: &mut Prng, harts: usize, locations: usize, events: usi
         }
     }
     choose_finals(prng, &mut table, values);
+    state_untouched(&mut table);
     table
+}
+
+/// States that each location that no memory event touches keeps its initial value, unless its final
+/// value is stated already: so that line 21 lets the table pass.
+pub fn state_untouched(table: &mut Table) {
+    for location in table.untouched().collect::<Vec<_>>() {
+        if !names_location(table.stated, location) {
+            table.stated |= 1 << location;
+            table.finals[location] = table.initial[location];
+        }
+    }
 }
 
 /// A table of any shape.

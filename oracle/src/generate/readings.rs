@@ -7,12 +7,13 @@ use super::kinds::{control_clauses, each_byte, fields_out_of_range};
 use super::operations::operation_edges;
 use super::prng::Prng;
 use super::random::{any_table, random_table};
-use crate::encode::{encode, seal};
+use super::unused::{stated_ends, unused_cases, unused_in_two, used_cases, used_in_two};
+use crate::encode::{encode, encode_in, seal};
 use crate::layout::one::{field::*, *};
 use crate::layout::*;
 use crate::litmus::{self, *};
 use crate::stream::push_frame;
-use crate::table::{Event, Table, ALL_FLAGS, PR, SW};
+use crate::table::{Event, Line, Table, ALL_FLAGS, PR, SW};
 use std::cmp::Ordering;
 
 const SEED: u64 = 1;
@@ -48,6 +49,7 @@ pub fn make_readings() -> Vec<u8> {
         fields_out_of_range(),
         control_clauses().iter().map(encode).collect(),
         readings_in_two(),
+        unused_locations(),
     ];
     let mut stream = Vec::new();
     for frame in families.concat() {
@@ -185,6 +187,8 @@ fn limits(prng: &mut Prng) -> Vec<Vec<u8>> {
         changed(&one, &[(HARTS_AT, 4)]),
         changed(&one, &[(HARTS_AT, 5)]),
         changed(&one, &[(LOCATIONS_AT, 0)]),
+        // Eight locations, of which seven are stated, or not.
+        changed(&one, &[(LOCATIONS_AT, 8), (STATED_AT, 254)]),
         changed(&one, &[(LOCATIONS_AT, 8)]),
         changed(&one, &[(LOCATIONS_AT, 9)]),
         changed(&one, &[(STATED_AT, 0b10)]),
@@ -320,6 +324,35 @@ fn fences_only() -> Vec<Vec<u8>> {
     ]
 }
 
+/// Line 21 in both editions, alone and with breaches of each earlier line; and tables next to those
+/// that it refuses.
+fn unused_locations() -> Vec<Vec<u8>> {
+    let mut frames = Vec::new();
+    for (_, test) in [unused_cases(), used_cases(), stated_ends()].concat() {
+        frames.extend(Edition::ALL.map(|edition| encode_in(edition, &test)));
+    }
+    let wide = [unused_in_two(), used_in_two()].concat();
+    frames.extend(wide.iter().map(|(_, test)| encode_in(Edition::Two, test)));
+    frames.extend(breaches_before_21());
+    // No memory event comes first.
+    let fences = Table { locations: 2, ..table(vec![fence(0, FULL), fence_tso(0)]) };
+    frames.extend(Edition::ALL.map(|edition| encode_in(edition, &fences)));
+    frames
+}
+
+/// Each breach of line 21 with some of each earlier line.
+pub fn breaches_before_21() -> Vec<Vec<u8>> {
+    let (later, earlier): (Vec<Breach>, Vec<Breach>) =
+        breaches().into_iter().partition(|breach| breach.line == Line::UnusedLocation);
+    let mut frames = Vec::new();
+    for line in earlier.chunk_by(|a, b| a.line == b.line) {
+        for breach in [line[0], line[line.len() / 2], line[line.len() - 1]] {
+            frames.extend(later.iter().map(|unused| broken(&[*unused, breach])));
+        }
+    }
+    frames
+}
+
 /// A valid table with one random byte changed: by turns any byte, one of what an AMO does, or
 /// one before the tail.
 fn damaged_table(prng: &mut Prng, number: usize) -> Vec<u8> {
@@ -354,7 +387,7 @@ pub fn random_block(prng: &mut Prng, number: usize) -> Vec<u8> {
 #[cfg(test)]
 mod tests {
     use super::*;
-    use crate::table::read;
+    use crate::table::{read, Refusal};
 
     #[test]
     fn the_lowest_record_wins_within_a_line() {
@@ -363,6 +396,17 @@ mod tests {
             let refusal = read(&broken(two)).unwrap_err();
             assert_eq!(refusal.line, two[0].line);
             assert!(refusal.record <= two[0].record.min(two[1].record));
+        }
+    }
+
+    #[test]
+    fn every_line_before_21_is_met_with_it() {
+        let refusals: Vec<_> = unused_locations().iter().map(|test| read(test).err()).collect();
+        for line in (3..=11).chain([21]) {
+            let is_of_line = |refusal: &&Option<Refusal>| {
+                refusal.is_some_and(|refusal| refusal.line as u8 == line)
+            };
+            assert!(refusals.iter().filter(is_of_line).count() >= 2, "{line}");
         }
     }
 

@@ -137,6 +137,6 @@ mod tests {
 
     #[test]
     fn a_test_of_edition_2_is_refused_by_each_line() {
-        assert_eq!(refused_by_each_line().len(), 11);
+        assert_eq!(refused_by_each_line().len(), 12);
     }
 }

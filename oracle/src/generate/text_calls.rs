@@ -10,6 +10,7 @@ use super::prng::Prng;
 use super::random::wide_table;
 use super::text_cases::*;
 use super::texts::{random_text, text_of};
+use super::unused::{stated_ends, unused_texts};
 use crate::layout::MOST_EVENTS;
 use crate::litmus::{self, *};
 use crate::search::MAX_ALLOWANCE;
@@ -53,7 +54,24 @@ pub fn make_texts() -> Vec<u8> {
         read(&mut calls);
     }
     refused_walks(&mut calls, prng);
+    unused_locations(&mut calls, prng);
     calls.stream
+}
+
+/// Line 21 and texts next to it: each is read, searched, and searched with a start, a buffer and an
+/// allowance that the lines 15, 16 and 17 refuse.
+fn unused_locations(calls: &mut Calls, prng: &mut Prng) {
+    for text in unused_texts() {
+        lend(calls, &text);
+        read(calls);
+        calls.walk(MOST_EVENTS, FEW_PREFIXES);
+        refused_start(calls, &[u8::MAX]);
+    }
+    for (_, test) in stated_ends() {
+        for way in WAYS {
+            lend_and(way, calls, prng, &text_of(&test).to_string());
+        }
+    }
 }
 
 fn read(calls: &mut Calls) {
@@ -142,7 +160,8 @@ fn first_prefixes(calls: &mut Calls, prng: &mut Prng, _: &Table) {
 
 /// Walks on texts that reading declines: by each line some.
 fn refused_walks(calls: &mut Calls, prng: &mut Prng) {
-    let texts = [numbers(), levels(), counts(), fences(), names(), broken_tables()].concat();
+    let cases = [numbers(), levels(), counts(), fences(), names(), broken_tables()];
+    let texts = [cases.concat(), unused_texts()].concat();
     let bytes = texts.into_iter().map(String::into_bytes).chain(lengths());
     let mut met = [0; 1 + Line::Names as usize];
     for text in bytes {
@@ -179,7 +198,7 @@ mod tests {
     fn every_refusal_and_every_answer_is_met_often() {
         let lines = print_texts(&make_texts()).expect("the stream is whole");
         let counts = answers(&lines);
-        for number in [1, 5, 7, 8, 9, 10, 11, 15, 16, 17, 19, 20, 23] {
+        for number in [1, 5, 7, 8, 9, 10, 11, 15, 16, 17, 19, 20, 21, 23] {
             let count = counts.get(&*format!("refused {number}")).copied().unwrap_or(0);
             assert!(count >= 10, "refused {number}: {count}");
         }

@@ -7,12 +7,13 @@ use crate::layout::{MAX_HARTS, MAX_LOCATIONS, MOST_EVENTS};
 use crate::litmus::*;
 use crate::raw::RawTable;
 use crate::record::RawEvent;
+use crate::table::Line;
 use crate::text::{Document, MAX_LEVELS};
 use crate::text_test::MAX_LENGTH;
 
-const LOAD: &str = "1 0 0 0 0 0 0 0 0 0 0";
-const STORE: &str = "2 0 0 0 0 0 0 0 1 0 0";
-const FENCE: &str = "6 0 0 15 0 0 0 0 0 0 0";
+pub const LOAD: &str = "1 0 0 0 0 0 0 0 0 0 0";
+pub const STORE: &str = "2 0 0 0 0 0 0 0 1 0 0";
+pub const FENCE: &str = "6 0 0 15 0 0 0 0 0 0 0";
 
 /// A text of some lines of events, initial values and a condition.
 pub fn text(lines: &[&str], initial: &str, condition: &str) -> String {
@@ -83,13 +84,21 @@ fn nested(depth: usize, mixture: usize) -> String {
     text(&[LOAD], "0", &format!("{opened}r0=0{closed}"))
 }
 
+/// A condition that names so many locations by `x`, or all that a test can have, as line 21 wants it
+/// where no memory event touches them.
+fn each_end(locations: usize) -> String {
+    let ends: Vec<String> =
+        (0..locations.min(MAX_LOCATIONS)).map(|location| format!("x{location}=0")).collect();
+    any_of(&ends.iter().map(String::as_str).collect::<Vec<_>>())
+}
+
 /// Numbers of events, of initial values, of harts and of locations, about their bounds and far above.
 pub fn counts() -> Vec<String> {
     let loads = |count: usize| text(&vec![LOAD; count], "0", "r0=0");
-    let values = |count: usize| text(&[LOAD], &vec!["0"; count].join(" "), "r0=0");
+    let values = |count: usize| text(&[LOAD], &vec!["0"; count].join(" "), &each_end(count));
     let field = |kind: u8, hart: usize, location: usize| {
         let line = format!("{kind} {hart} {location} 0 0 0 0 0 0 0 0");
-        text(&[LOAD, &line], "0", "x0=0")
+        text(&[LOAD, &line], "0", &each_end(location.max(1)))
     };
     let (most, harts, locations) = (MOST_EVENTS, MAX_HARTS, MAX_LOCATIONS);
     let mut texts: Vec<String> = [0, 1, 16, 17, most - 1, most, most + 1, 80].map(loads).to_vec();
@@ -158,9 +167,11 @@ pub fn lengths() -> Vec<Vec<u8>> {
     texts
 }
 
-/// The base's text with each breach of a line that names a record, and with two of them.
+/// The base's text with each breach of a line that names a record, and with two of them; and with each
+/// of line 21.
 pub fn broken_tables() -> Vec<String> {
-    let is_of_record = |breach: &Breach| breach.record.is_some();
+    let is_of_record =
+        |breach: &Breach| breach.record.is_some() || breach.line == Line::UnusedLocation;
     let broken = |breach: Breach| {
         let mut block = base_block();
         breach.apply(&mut block);
@@ -248,7 +259,6 @@ pub fn cut_texts(text: &[u8]) -> impl Iterator<Item = Vec<u8>> + '_ {
 #[cfg(test)]
 mod tests {
     use super::*;
-    use crate::table::Line;
     use crate::text::read_document;
     use crate::text_test::{read_text, TextRefusal};
 
@@ -276,7 +286,7 @@ mod tests {
     }
 
     #[test]
-    fn broken_tables_are_refused_by_7_to_10_or_5() {
+    fn broken_tables_are_refused_by_7_to_10_5_or_21() {
         let mut lines = Vec::new();
         for text in broken_tables() {
             match read_text(text.as_bytes()) {
@@ -285,13 +295,8 @@ mod tests {
                 Ok(_) => {}
             }
         }
-        for line in
-            [Line::Ranges, Line::Fields, Line::Annotations, Line::Dependencies, Line::Pairing]
-        {
-            assert!(
-                lines.iter().filter(|&&refused| refused == line as u8).count() >= 2,
-                "{line:?}"
-            );
+        for line in [5, 7, 8, 9, 10, 21] {
+            assert!(lines.iter().filter(|&&refused| refused == line).count() >= 2, "{line}");
         }
     }
 }

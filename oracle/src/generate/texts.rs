@@ -65,15 +65,27 @@ pub fn random_text(prng: &mut Prng, table: &Table) -> Document {
     while is_cut && text.initial.len() > 1 && text.initial.ends_with(&[0]) {
         text.initial.pop();
     }
+    name_untouched(table, &mut text);
     text
 }
 
-/// A condition on readers and locations of a table. Most of its values are those of one lawful
-/// order, so that it is often true.
+/// Asks besides that each location that line 21 would refuse ends at its initial value.
+fn name_untouched(table: &Table, text: &mut Document) {
+    let covering = table.events.iter().map(|event| event.location + 1).max();
+    let locations = text.initial.len().max(covering.unwrap_or(0));
+    let is_refused = |&l: &usize| l < locations && !text.condition.names_end_of(l);
+    let untouched = table.untouched().filter(is_refused);
+    let ends = untouched.map(|l| Condition::Ends { location: l as u8, value: table.initial[l] });
+    text.condition = all_of(&[text.condition.clone()].into_iter().chain(ends).collect::<Vec<_>>());
+}
+
+/// A condition on readers and locations of a table, with levels left to name the untouched ones. Most
+/// of its values are those of one lawful order, so that it is often true.
 fn random_condition(prng: &mut Prng, table: &Table) -> Condition {
     let order = lawful_order(prng, table);
     let levels = *prng.pick(&[0, 1, 1, 2, 2, 3, 4, MAX_LEVELS]);
-    nested_condition(prng, table, order.as_deref(), levels)
+    let naming = (1 + table.untouched().count()).next_power_of_two().ilog2() as usize;
+    nested_condition(prng, table, order.as_deref(), levels.min(MAX_LEVELS - naming))
 }
 
 fn nested_condition(

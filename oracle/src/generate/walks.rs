@@ -10,7 +10,8 @@ use super::operations::{mixed_operation_cases, operation_cases};
 use super::orders::{bytes, linear_extension, state_outcome};
 use super::prng::Prng;
 use super::random::{random_table, wide_table};
-use crate::encode::{encode, encode_fitting};
+use super::unused::{stated_ends, unused_cases, unused_in_two};
+use crate::encode::{encode, encode_fitting, encode_in};
 use crate::layout::one::MAX_EVENTS;
 use crate::layout::*;
 use crate::litmus::{self, *};
@@ -59,7 +60,32 @@ pub fn make_walks() -> Vec<u8> {
     walks_in_two(&mut calls, prng);
     calls.given = Given::Block(Engine::Second);
     walks_of_the_second_engine(&mut calls, prng);
+    for engine in Engine::ALL {
+        calls.given = Given::Block(engine);
+        unused_locations(&mut calls, prng);
+    }
     calls.stream
+}
+
+/// Line 21, alone and with the lines 15, 16 and 17, which come after it; then tests that state where
+/// an untouched location ends.
+fn unused_locations(calls: &mut Calls, prng: &mut Prng) {
+    for (_, test) in unused_cases() {
+        for edition in Edition::ALL {
+            refused_walk(calls, prng, encode_in(edition, &test), test.memory_events().len());
+            refused_start(calls, &[u8::MAX]);
+        }
+    }
+    for (_, test) in unused_in_two() {
+        let memory_events = test.memory_events().len();
+        refused_walk(calls, prng, encode_in(Edition::Two, &test), memory_events);
+        refused_start(calls, &[0, 0]);
+    }
+    for (_, test) in stated_ends() {
+        for way in WAYS {
+            lend_and(way, calls, prng, &test);
+        }
+    }
 }
 
 /// Lends a table's test, and makes calls on it in some way.

@@ -1,4 +1,4 @@
-//! The stored stream of `writes`: good tables, tables that each of the lines 5 to 11 refuses,
+//! The stored stream of `writes`: good tables, tables that each of the lines 5 to 11 and 21 refuses,
 //! and buffers of other lengths.
 
 use super::breaches::{base, base_block, breaches};
@@ -6,6 +6,8 @@ use super::kinds::{control_clauses, fields_out_of_range};
 use super::operations::operation_edges;
 use super::prng::Prng;
 use super::random::any_table;
+use super::readings::breaches_before_21;
+use super::unused::{stated_ends, unused_cases, unused_in_two, used_cases};
 use crate::encode::encode;
 use crate::layout::one::MAX_EVENTS;
 use crate::layout::{BLOCK_LENGTH, LONGEST_TEST, MAX_LOCATIONS, MOST_EVENTS};
@@ -46,7 +48,28 @@ pub fn make_writes() -> Vec<u8> {
     for table in [raw(&base()), thirty_events()[0].clone()] {
         push_call(&mut stream, &table, LONGEST_TEST);
     }
+    unused_locations(&mut stream);
     stream
+}
+
+/// Line 21, alone, with buffers of another length and with breaches of earlier lines; tables next to
+/// those that it refuses; and those of more than 16 events, which are refused by 5 first.
+fn unused_locations(stream: &mut Vec<u8>) {
+    for (_, test) in unused_cases() {
+        push_call(stream, &raw(&test), BLOCK_LENGTH);
+        push_call(stream, &raw(&test), BLOCK_LENGTH - 1);
+    }
+    for (_, test) in [used_cases(), stated_ends()].concat() {
+        push_call(stream, &raw(&test), BLOCK_LENGTH);
+    }
+    for block in breaches_before_21().iter().step_by(2) {
+        push_call(stream, &RawTable::of_block(block), BLOCK_LENGTH);
+    }
+    let fences = Table { locations: 2, ..table(vec![fence(0, FULL)]) };
+    let others = [unused_in_two(), vec![("no-memory-event", fences)]].concat();
+    for (_, test) in others {
+        push_call(stream, &RawTable::from(&test), BLOCK_LENGTH);
+    }
 }
 
 fn push_call(stream: &mut Vec<u8>, table: &RawTable, buffer_length: usize) {
@@ -133,7 +156,7 @@ mod tests {
     use crate::operation::Operation;
     use crate::raw::write;
     use crate::stream::{Stream, PREFILL};
-    use crate::table::{read, Line};
+    use crate::table::read;
 
     /// What isn't refused is read back, and what is leaves the buffer alone.
     #[test]
@@ -157,7 +180,7 @@ mod tests {
                 }
             }
         }
-        for line in [Line::Length as u8].into_iter().chain(5..=11) {
+        for line in [1, 21].into_iter().chain(5..=11) {
             assert!(refusals.contains(&line), "no table is refused by {line}");
         }
         for operation in Operation::SOME {

@@ -2,6 +2,7 @@ use mathlib.Core.Path.{_≡_, refl, sym, ap, _∙_}
 use mathlib.Core.Bool.{not}
 use borrow.Author.Tests.{eq-eqb, ne-eqb}
 use Rattle.refusals.specs.Refusals.{refusalOf}
+use Rattle.refusals.specs.TableLines.{tableLines}
 use Rattle.refusals.proofs.LineLaws.{whole-here, whole-next}
 use Rattle.edition.specs.Limits.{one}
 use Rattle.block.specs.Reading.{editionRefusal, editionLines, lengthLines}
@@ -26,10 +27,10 @@ bytes-not-zero-requires c κs = search needs
 refuse-requires : tie.Need-refuse-requires
 refuse-requires c κs = search needs
 
--- lines 5 to 11 decide
+-- lines 5 to 11 and 21 decide
 decided : (c : tie.After-refuse) →
     refusalOf (c .refuse .result) ≡ editionRefusal one (c .before .before .before .before .before .args .s .now)
-unfolding editionRefusal editionLines lengthLines
+unfolding editionRefusal editionLines lengthLines tableLines
 decided c =
     whole-next _ _ _ _ _ (ap not (eq-eqb _ _ (c .before .before .before .if1 .left)))
     (whole-next _ _ _ _ _ (no-later _)

@@ -1,6 +1,7 @@
 use mathlib.Core.Path.{ap, sym, _∙_}
 use mathlib.Core.Bool.{not}
 use borrow.Author.Tests.{eq-eqb, ne-eqb}
+use Rattle.refusals.specs.TableLines.{tableLines}
 use Rattle.refusals.proofs.LineLaws.{whole-here, whole-next}
 use Rattle.edition.specs.Limits.{two}
 use Rattle.block.specs.Reading.{editionRefusal, editionLines, lengthLines}
@@ -43,7 +44,7 @@ table-if-requires : tie.Need-table-if-requires
 table-if-requires c κs = search needs
 
 returns-3 : tie.Need-returns-3
-unfolding editionRefusal editionLines lengthLines
+unfolding editionRefusal editionLines lengthLines tableLines
 returns-3 c =
     reads-as-table two _ _ _ _
     (whole-next _ _ _ _ _ (ap not (eq-eqb _ _ (c .before .before .before .before .before .before .if1 .left)))

@@ -3,7 +3,7 @@ use mathlib.Core.Bool.{false}
 use native.Mathlib.Omega.{arith}
 use Rattle.refusals.proofs.InRange.{in-range}
 use Rattle.refusals.proofs.LineLaws.{whole-here, whole-next}
-use Rattle.refusals.specs.TableLines.{recordLines, tableLinesBy, tableLines, line5, line6}
+use Rattle.refusals.specs.TableLines.{recordLines, tableLinesBy, line5, line6}
 use borrow.Author.Needs.{needs}
 use Rattle.table_lines.proofs.refuse.Statement.{statement}
 use Rattle.table_lines.proofs.refuse.Tie as tie
@@ -12,7 +12,7 @@ line5-requires : tie.Need-line5-requires
 line5-requires c κs = search needs
 
 returns : tie.Need-returns
-unfolding tableLines tableLinesBy line5
+unfolding tableLinesBy line5
 returns c = whole-here _ _ _ _ (sym (c .before .line5 .ensures) ∙ c .if1 .taken)
 
 initial-not-zero-requires : tie.Need-initial-not-zero-requires
@@ -30,23 +30,25 @@ unfolding line5
 past5 c = sym (c .before .line5 .ensures) ∙ c .if1 .left
 
 returns-2 : tie.Need-returns-2
-unfolding tableLines tableLinesBy line6
+unfolding tableLinesBy line6
 returns-2 c =
     whole-next _ _ _ _ _ (past5 (c .before .before .before .before .before .before))
     (whole-here _ _ _ _
     (rw (c .before .before .before .initial-not-zero .ensures, c .before .before .final-not-zero .ensures, c .before .past-not-blank .ensures) at (c .if2 .taken)))
 
-refuse-records-requires : tie.Need-refuse-records-requires
-refuse-records-requires c κs = omega (arith, in-range _ _ (past5 (c .before .before .before .before .before .before)))
+refuse-events-requires : tie.Need-refuse-events-requires
+refuse-events-requires c κs =
+    let counts = in-range _ _ (past5 (c .before .before .before .before .before .before)) in
+    (omega (arith, counts .events), counts .locations)
 
 returns-3 : tie.Need-returns-3
-unfolding tableLines tableLinesBy recordLines line6
+unfolding tableLinesBy recordLines line6
 returns-3 c =
     let d = c .before in
     whole-next _ _ _ _ _ (past5 (d .before .before .before .before .before .before))
     (whole-next _ _ _ _ _
     (rw (d .before .before .before .initial-not-zero .ensures, d .before .before .final-not-zero .ensures, d .before .past-not-blank .ensures) at (d .if2 .left))
-    (c .refuse-records .ensures))
+    (c .refuse-events .ensures))
 
 pub refuse-spec : {M : Type 1} → statement M
 refuse-spec =
@@ -58,5 +60,5 @@ refuse-spec =
     final-not-zero-requires
     past-not-blank-requires
     returns-2
-    refuse-records-requires
+    refuse-events-requires
     returns-3)

@@ -4,6 +4,7 @@ use Rattle.edition.specs.Limits.{two, mostEvents}
 use Rattle.refusals.specs.TableLines.{tableLinesBy}
 use Rattle.refusals.proofs.InRange.{too-many}
 use Rattle.refusals.proofs.LineLaws.{whole-here}
+use Rattle.table_lines.proofs.UsedLaws.{all-named}
 use Rattle.table_lines.proofs.AsBlockLaws.{text-lines}
 use borrow.Author.Needs.{needs}
 use Rattle.table_lines.proofs.refuse_text.Statement.{statement}
@@ -23,7 +24,7 @@ refuse-requires : tie.Need-refuse-requires
 refuse-requires c κs = search needs
 
 returns-2 : tie.Need-returns-2
-returns-2 c = c .refuse .ensures ∙ text-lines _ _ (c .before .table-as-block .ensures) (mostEvents two)
+returns-2 c = c .refuse .ensures ∙ all-named _ (mostEvents two) _ ∙ text-lines _ _ (c .before .table-as-block .ensures) (mostEvents two)
 
 pub refuse-text-spec : {M : Type 1} → statement M
 refuse-text-spec =

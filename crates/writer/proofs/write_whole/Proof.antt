@@ -1,5 +1,6 @@
 use mathlib.Core.Path.{refl, sym, ap, _∙_}
 use borrow.Author.Needs.{needs}
+use Rattle.refusals.specs.TableLines.{tableLines}
 use Rattle.refusals.specs.Refusals.{refusalOf}
 use Rattle.writer.proofs.WritingLaws.{writes-whole}
 use Rattle.writer.proofs.write_whole.Statement.{statement}
@@ -27,16 +28,19 @@ same-length : tie.Need-same-length
 same-length c = search needs
 
 returns : tie.Need-returns
+unfolding tableLines
 returns c =
     let a = c .before .before .before .before .before .before .before .before .before .args in
     writes-whole (a .t) (a .out .now) _ _ (c .before .before .before .before .before .before .before .before .before .pre) (sym (ap refusalOf (c .before .before .before .before .before .enum-told .given .1)) ∙ c .before .before .before .before .before .before .before .refuse .ensures) (c .before .before .copy .ensures ∙ c .before .before .before .before .encode .ensures)
 
 returns-2 : tie.Need-returns-2
+unfolding tableLines
 returns-2 c =
     let a = c .before .before .before .before .before .args in
     writes-whole (a .t) (a .out .now) _ _ (c .before .before .before .before .before .pre) (sym (ap refusalOf (c .before .refusal .given .1)) ∙ c .before .before .before .refuse .ensures) refl
 
 returns-3 : tie.Need-returns-3
+unfolding tableLines
 returns-3 c =
     let a = c .before .before .before .before .before .args in
     writes-whole (a .t) (a .out .now) _ _ (c .before .before .before .before .before .pre) (sym (ap refusalOf (c .before .refusal2 .given .1)) ∙ c .before .before .before .refuse .ensures) refl
