@@ -14,6 +14,7 @@ static const struct ct_table TABLE = {
     .locations = 8,
     .count = 3,
     .stated = 0xff,
+    .model = CT_RVTSO,
     .initial = {0x0102, 0x0304, 0x0506, 0x0708, 0x090a, 0x0b0c, 0x0d0e, 0x0f10},
     .events = {
         {.kind = LOAD, .hart = 1, .location = 2, .read = 0x2122},
@@ -26,7 +27,7 @@ static const struct ct_table TABLE = {
 
 /* The header and the initial values, the three records, and the final values, as the layout of a block has them. */
 static const uint8_t HEADER[] = {
-    'R', 'V', 'T', '1', 1, 2, 8, 3, 0xff, 0, 0, 0, 0, 0, 0, 0,
+    'R', 'V', 'T', '1', 1, 2, 8, 3, 0xff, 1, 0, 0, 0, 0, 0, 0,
     0x02, 0x01, 0x04, 0x03, 0x06, 0x05, 0x08, 0x07, 0x0a, 0x09, 0x0c, 0x0b, 0x0e, 0x0d, 0x10, 0x0f,
     1, 1, 2, 0, 0, 0, 0, 0, 0, 0, 0x22, 0x21, 0, 0, 0, 0,
     1, 1, 3, 0, 0, 0, 0, 0, 0, 0, 0x24, 0x23, 0, 0, 0, 0,
@@ -47,6 +48,7 @@ static int same_event(struct ct_event a, struct ct_event b)
 static int same_table(struct ct_table a, struct ct_table b)
 {
     int same = a.harts == b.harts && a.locations == b.locations && a.count == b.count && a.stated == b.stated &&
+               a.model == b.model &&
                memcmp(a.initial, b.initial, sizeof a.initial) == 0 && memcmp(a.finals, b.finals, sizeof a.finals) == 0;
     for (unsigned k = 0; k < CT_SLOTS; k++) {
         same = same && same_event(a.events[k], b.events[k]);

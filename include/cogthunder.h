@@ -1,5 +1,5 @@
 /*
- * Cogthunder: a proved bench for the RISC-V memory model (RVWMO).
+ * Cogthunder: a proved bench for the RISC-V memory models (RVWMO and RVTSO).
  *
  * Link with target/staticlib/libcapi.a, which `rt staticlib capi` makes.
  *
@@ -30,6 +30,7 @@
  *   7  found               length written      -                           -             visited
  *   8  none left           -                   -                           -             visited
  *   9  spent               length written      -                           -             visited
+ *   10 step accepted       event               entry of a returned list    -             -
  */
 #ifndef COGTHUNDER_H
 #define COGTHUNDER_H
@@ -76,7 +77,8 @@ enum ct_case {
     CT_FINAL_VALUE = 6,
     CT_FOUND = 7,
     CT_NONE_LEFT = 8,
-    CT_SPENT = 9
+    CT_SPENT = 9,
+    CT_STEP_TAKEN = 10
 };
 
 /* The parts of a word. */
@@ -119,15 +121,22 @@ struct ct_event {
     uint8_t operand;   /* of the operation, 0 without one */
 };
 
+/* The memory models. */
+enum ct_model {
+    CT_RVWMO = 0,
+    CT_RVTSO = 1 /* the annotations of the Ztso extension, besides those that an event carries */
+};
+
 /*
- * A test by value: 804 bytes, of which an event has 24. The last two of an event are padding, and may hold anything; what
- * else a test doesn't use is zero, slots past its events too.
+ * A test by value: 808 bytes, of which an event has 24. Padding, which may hold anything, is one byte behind the model, two behind
+ * the initial values and the last two of an event; what else a test doesn't use is zero, slots past its events too.
  */
 struct ct_table {
     uint8_t harts;
     uint8_t locations;
     uint8_t count;  /* of events */
     uint8_t stated; /* mask of the locations whose final value is stated */
+    uint8_t model;  /* enum ct_model */
     uint16_t initial[CT_LOCATIONS];
     struct ct_event events[CT_SLOTS];
     uint16_t finals[CT_LOCATIONS];
@@ -164,6 +173,14 @@ uint64_t ct_verdict(const uint8_t *test, size_t test_len, const uint8_t *returne
  */
 uint64_t ct_rules(const uint8_t *test, size_t test_len, const uint8_t *returned, size_t returned_len, uint64_t a,
                   uint64_t b);
+
+/*
+ * One step of the machine for RVTSO, behind the list of the steps so far, a byte each: the hart to issue its next event, or the hart
+ * plus 4 to drain the oldest store of its buffer. Any number may be asked for as the step. Case 10: accepted; byte 1 is its event, byte
+ * 2 what a returned list holds for it, CT_NOTHING for a store or a fence. The caller then adds the step to the list. Case 1: refusal 1 to
+ * 11 or 21, or 24: the list isn't a run, the machine doesn't take the step, or the test isn't of model CT_RVTSO.
+ */
+uint64_t ct_step(const uint8_t *test, size_t test_len, const uint8_t *steps, size_t steps_len, uint64_t step);
 
 /*
  * Writes the returned list that an order determines to the front of `out`, which has room for an entry for each event

@@ -1,6 +1,6 @@
 //! One call, and what may come of it.
 
-use cogthunder::{Answer, Axiom, Refusal, Rules, Table};
+use cogthunder::{Answer, Axiom, Refusal, Rules, Table, Taken};
 use oracle::raw::RawTable;
 use oracle::search::Engine;
 use oracle::text_test::TextRefusal;
@@ -57,6 +57,13 @@ pub enum Entry {
     BothEngines {
         allowance: u64,
     },
+    /// One step of the machine, behind a list of steps.
+    Step {
+        steps: Vec<u8>,
+        step: u64,
+    },
+    /// All runs of the machine, and all witnesses.
+    Runs,
 }
 
 /// What is asked of a suite.
@@ -101,6 +108,15 @@ pub enum Reply {
         visited: [u64; 2],
     },
     OtherWitnesses([Walked; 2]),
+    Taken(Taken),
+    Ran(Ran),
+}
+
+/// The orders of all complete runs of the machine, with their returned lists, and all witnesses; both ascending.
+#[derive(Clone, PartialEq, Eq, Default, Debug)]
+pub struct Ran {
+    pub orders: Vec<(Vec<u8>, Vec<u8>)>,
+    pub witnesses: Vec<Vec<u8>>,
 }
 
 /// The witnesses of a walk to its end, and how many prefixes it visited.
@@ -169,12 +185,13 @@ impl Entry {
     pub fn inputs(&self) -> (Option<&[u8]>, Option<&[u8]>) {
         match self {
             Entry::Read | Entry::ReadText | Entry::TableOfText => (None, None),
-            Entry::Write { .. } | Entry::Suite(_) | Entry::BothEngines { .. } => (None, None),
+            Entry::Write { .. } | Entry::Suite(_) | Entry::BothEngines { .. } | Entry::Runs => (None, None),
             Entry::Verdict { returned, order } => (Some(returned), Some(order)),
             Entry::Rules { returned: list, .. }
             | Entry::Returns { order: list, .. }
             | Entry::Search { start: list, .. }
-            | Entry::Witnesses { start: list, .. } => (Some(list), None),
+            | Entry::Witnesses { start: list, .. }
+            | Entry::Step { steps: list, .. } => (Some(list), None),
         }
     }
 
@@ -214,6 +231,8 @@ impl Entry {
             Entry::Witnesses { given: Given::Text, .. } => "witnesses of texts",
             Entry::Witnesses { .. } => "witnesses",
             Entry::BothEngines { .. } => "both engines",
+            Entry::Step { .. } => "step",
+            Entry::Runs => "all runs",
         }
     }
 }

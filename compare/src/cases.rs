@@ -2,6 +2,7 @@
 
 use crate::call::{Call, Entry, OfSuite, Outcome, Reply};
 use crate::comparison::{Comparison, Difference};
+use crate::runs::{all_runs, any_step, steps};
 use crate::texts::*;
 use crate::writes::writes;
 use cogthunder::Answer;
@@ -25,7 +26,7 @@ use oracle::walks::Given;
 pub type Round = fn(&mut Prng, &mut Comparison) -> Result<(), Box<Difference>>;
 
 /// As often as they shall come.
-const ROUNDS: [Round; 41] = [
+const ROUNDS: [Round; 46] = [
     candidates,
     candidates,
     candidates,
@@ -41,6 +42,11 @@ const ROUNDS: [Round; 41] = [
     witnesses,
     both_engines,
     both_engines,
+    steps,
+    steps,
+    steps,
+    all_runs,
+    all_runs,
     damaged_table,
     damaged_table,
     damaged_table,
@@ -154,9 +160,24 @@ pub fn any_test(prng: &mut Prng, table: &Table) -> Vec<u8> {
     encode_in(any_edition(prng, table), table)
 }
 
+/// Model 1 in a third of the tests.
+fn any_model(prng: &mut Prng) -> Model {
+    if prng.one_in(3) {
+        Model::Rvtso
+    } else {
+        Model::Rvwmo
+    }
+}
+
+/// A table of any shape, in either model.
+pub fn any_shape(prng: &mut Prng) -> Table {
+    let model = any_model(prng);
+    any_program(prng).in_model(model)
+}
+
 /// Tables of any size, tables whose harts meet at few locations, smaller ones whose harts meet at one, and tables with
 /// many annotations; and two kinds of tables with more events than edition 1 has room for.
-pub fn any_shape(prng: &mut Prng) -> Table {
+pub fn any_program(prng: &mut Prng) -> Table {
     match prng.below(6) {
         0 => any_table(prng),
         1 => contended_table(prng),
@@ -225,11 +246,17 @@ pub fn nearly(prng: &mut Prng, list: &[u8]) -> Vec<u8> {
     list
 }
 
-/// A table of some size that often has witnesses.
-pub fn table_with_outcome(prng: &mut Prng, events: usize) -> Table {
+/// A table of some size that often has witnesses, in either model.
+fn table_with_outcome(prng: &mut Prng, events: usize) -> Table {
+    let model = any_model(prng);
+    program_with_outcome(prng, events, model)
+}
+
+/// The same in a model.
+pub fn program_with_outcome(prng: &mut Prng, events: usize, model: Model) -> Table {
     let harts = 1 + prng.below(MAX_HARTS);
     let locations = 1 + prng.below(3);
-    let mut table = random_table(prng, harts, locations, events);
+    let mut table = random_table(prng, harts, locations, events).in_model(model);
     if !prng.one_in(3) {
         let order = lawful_order(prng, &table).unwrap_or_else(|| linear_extension(prng, &table));
         state_outcome(&mut table, &order);
@@ -245,9 +272,15 @@ fn small_walk(prng: &mut Prng, comparison: &mut Comparison) -> Result<(), Box<Di
     walk(prng, &mut Calls { comparison, bytes }, &table)
 }
 
-/// A walk over a table of more events than edition 1 has room for, whose harts are chains.
+/// A table of more events than edition 1 has room for, whose harts are chains, in either model.
+fn any_chain(prng: &mut Prng) -> Table {
+    let model = any_model(prng);
+    chained_table(prng).in_model(model)
+}
+
+/// A walk over such a table.
 fn chain_walk(prng: &mut Prng, comparison: &mut Comparison) -> Result<(), Box<Difference>> {
-    let table = chained_table(prng);
+    let table = any_chain(prng);
     let bytes = any_test(prng, &table);
     let mut calls = Calls { comparison, bytes };
     single_search(prng, &mut calls, &table)?;
@@ -352,7 +385,7 @@ pub fn any_allowance_of_a_walk(prng: &mut Prng) -> u64 {
 /// All witnesses of a table by both engines: of a small one, or of one whose harts are chains.
 fn both_engines(prng: &mut Prng, comparison: &mut Comparison) -> Result<(), Box<Difference>> {
     let events = 1 + prng.below(FEW_EVENTS);
-    let table = if prng.one_in(8) { chained_table(prng) } else { table_with_outcome(prng, events) };
+    let table = if prng.one_in(8) { any_chain(prng) } else { table_with_outcome(prng, events) };
     let bytes = any_test(prng, &table);
     let allowance = any_allowance_of_a_walk(prng);
     Calls { comparison, bytes }.call(Entry::BothEngines { allowance })?;
@@ -379,6 +412,9 @@ fn every_entry(prng: &mut Prng, calls: &mut Calls, table: &Table) -> Result<(), 
     for engine in Engine::ALL {
         calls.search(prng, Given::Block(engine), start.clone(), room, allowance)?;
     }
+    let step = any_step(prng, None);
+    calls.call(Entry::Step { steps: start, step })?;
+    calls.call(Entry::Step { steps: Vec::new(), step })?;
     Ok(())
 }
 
@@ -511,6 +547,15 @@ mod tests {
         for flags in [ACQUIRE_RCPC, ACQUIRE_RCSC, RELEASE_RCPC, RELEASE_RCSC] {
             let is_met = |event: &Event| event.kind == Kind::Amo && event.flags == flags;
             assert!(tables.iter().any(|table| table.events.iter().any(is_met)), "{flags}");
+        }
+    }
+
+    #[test]
+    fn tables_are_of_both_models() {
+        let mut prng = Prng::new(5);
+        let tables: Vec<Table> = (0..TABLES).map(|_| any_shape(&mut prng)).collect();
+        for model in Model::ALL {
+            assert!(tables.iter().filter(|table| table.model == model).count() > TABLES / 4, "{model:?}");
         }
     }
 

@@ -53,7 +53,7 @@ mod tests {
     use crate::lent::Room;
     use crate::library::Library;
     use crate::reference::Reference;
-    use cogthunder::{Answer, Axiom, Rules};
+    use cogthunder::{Answer, Axiom, Rules, Taken, INITIALLY, NOTHING};
     use oracle::encode::{encode, seal};
     use oracle::generate::prng::Prng;
     use oracle::layout::{BLOCK_LENGTH, CHECK_AT, EVENTS_AT, LONGEST_TEST};
@@ -152,6 +152,32 @@ mod tests {
         });
         assert_eq!(found.call.bytes[EVENTS_AT], 1);
         assert!(matches!(found.library.reply, Reply::OtherWitnesses(_)));
+    }
+
+    #[test]
+    fn a_load_that_returns_past_its_buffer_is_shown_by_a_store_and_the_load() {
+        let found = difference(|call, outcome| {
+            let is_drained = matches!(&call.entry, Entry::Step { steps, .. } if steps.iter().any(|&step| step >= 4));
+            if let (false, Reply::Taken(taken)) = (is_drained, &mut outcome.reply) {
+                if taken.entry != NOTHING {
+                    taken.entry = INITIALLY;
+                }
+            }
+        });
+        assert_eq!(found.call.bytes[EVENTS_AT], 2);
+        assert_eq!(found.call.entry, Entry::Step { steps: vec![0], step: 0 });
+        assert_eq!(found.reference.reply, Reply::Taken(Taken { event: 1, entry: 0 }));
+    }
+
+    #[test]
+    fn an_order_that_no_run_has_is_shown_by_one_event() {
+        let found = difference(|_, outcome| {
+            if let Reply::Ran(ran) = &mut outcome.reply {
+                ran.orders.pop();
+            }
+        });
+        assert_eq!((found.call.bytes[EVENTS_AT], found.call.entry), (1, Entry::Runs));
+        assert!(matches!(found.reference.reply, Reply::Ran(ran) if ran.orders.len() == 1));
     }
 
     #[test]

@@ -3,6 +3,7 @@
 use crate::call::{Bench, Call, Entry, OfSuite, Outcome, Reply, Walked};
 use crate::lent::Room;
 use crate::reference::same_fields;
+use crate::runs;
 use cogthunder::{Answer, Refusal, Table, Tests, Verdict, Witnesses};
 use oracle::search::Engine;
 use oracle::walks::Given;
@@ -62,6 +63,10 @@ impl Library {
                     .map_or_else(Reply::from, Reply::Witnesses)
             }
             Entry::BothEngines { allowance } => both_walks(bytes, *allowance).map_or_else(Reply::from, Reply::from),
+            Entry::Step { steps, step } => {
+                cogthunder::step(bytes, self.first.lend(steps), *step).map_or_else(Reply::from, Reply::Taken)
+            }
+            Entry::Runs => runs::library(bytes).map_or_else(Reply::from, Reply::Ran),
         }
     }
 

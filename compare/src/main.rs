@@ -8,6 +8,7 @@ mod library;
 mod litmus;
 mod pages;
 mod reference;
+mod runs;
 mod shrink;
 mod tally;
 mod texts;

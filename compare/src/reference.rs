@@ -2,7 +2,8 @@
 
 use crate::call::{Bench, Call, Entry, OfSuite, Outcome, Reply, Walked};
 use crate::library::place_in;
-use cogthunder::{Answer, Axiom, Event, Rules, Table};
+use crate::runs;
+use cogthunder::{Answer, Axiom, Event, Rules, Table, Taken};
 use oracle::raw::RawTable;
 use oracle::record::RawEvent;
 use oracle::search::{Engine, MAX_ALLOWANCE};
@@ -45,6 +46,9 @@ fn reply(call: &Call, buffer: &mut [u8]) -> Reply {
         Entry::Suite(asked) => suite_reply(bytes, asked),
         Entry::Witnesses { given, start, .. } => walk(*given, bytes, start).map_or_else(Reply::from, Reply::Witnesses),
         Entry::BothEngines { .. } => both_walks(bytes).map_or_else(Reply::from, Reply::from),
+        Entry::Step { steps, step } => oracle::machine::step(bytes, steps, *step)
+            .map_or_else(Reply::from, |taken| Reply::Taken(Taken { event: taken.event as u8, entry: taken.entry() })),
+        Entry::Runs => runs::reference(bytes).map_or_else(Reply::from, Reply::Ran),
     }
 }
 
@@ -74,6 +78,7 @@ pub fn same_fields(raw: &RawTable) -> Table {
     let mut table = Table::new(raw.harts, raw.locations);
     table.count = raw.count;
     table.stated = raw.stated;
+    table.model = raw.model;
     table.initial = raw.initial;
     table.finals = raw.finals;
     table.events = raw.events.map(same_event);

@@ -7,7 +7,7 @@ use oracle::layout::*;
 use oracle::raw::RawTable;
 use oracle::record::RawEvent;
 use oracle::stream::Stream;
-use oracle::table::{names_location, Event};
+use oracle::table::{names_location, Event, Kind};
 use oracle::walks::Given;
 
 /// Takes smaller calls as long as one has the property. Each has fewer events, shorter lists, a smaller number or a
@@ -109,7 +109,8 @@ fn without_event(edition: Edition, call: &Call, k: usize) -> Call {
             Entry::Witnesses { given, start: list(&start), allowance, steps }
         }
         entry @ (Entry::Read | Entry::ReadText | Entry::TableOfText) => entry,
-        entry @ (Entry::Write { .. } | Entry::Suite(_) | Entry::BothEngines { .. }) => entry,
+        Entry::Step { steps, step } => Entry::Step { steps: steps_without(edition, &call.bytes, &steps, k), step },
+        entry @ (Entry::Write { .. } | Entry::Suite(_) | Entry::BothEngines { .. } | Entry::Runs) => entry,
     };
     Call { bytes, entry }
 }
@@ -163,6 +164,18 @@ fn returned_without(returned: &[u8], k: usize) -> Vec<u8> {
     others.map(|(_, &writer)| entry(writer)).collect()
 }
 
+/// A list of steps without those that issue and drain event k.
+fn steps_without(edition: Edition, test: &[u8], steps: &[u8], k: usize) -> Vec<u8> {
+    let event = |k: usize| RawEvent::of_record(edition, &test[edition.record(k)]);
+    let is_store = |event: &RawEvent| [Kind::Store as u8, Kind::Sc as u8].contains(&event.kind);
+    let own: Vec<RawEvent> = (0..=k).map(event).filter(|other| other.hart == event(k).hart).collect();
+    let place = |step: u8, number: usize| (0..steps.len()).filter(|&at| steps[at] == step).nth(number);
+    let stores = own.iter().filter(|event| is_store(event)).count();
+    let issue = place(event(k).hart, own.len() - 1);
+    let drain = is_store(&event(k)).then(|| place(event(k).hart.wrapping_add(MAX_HARTS as u8), stores - 1)).flatten();
+    (0..steps.len()).filter(|at| ![issue, drain].contains(&Some(*at))).map(|at| steps[at]).collect()
+}
+
 /// A list without its last entry, or nothing.
 fn shorter(list: &[u8]) -> Option<Vec<u8>> {
     list.split_last().map(|(_, rest)| rest.to_vec())
@@ -175,7 +188,8 @@ fn smaller_numbers(number: u64) -> impl Iterator<Item = u64> {
 fn smaller_entries(entry: &Entry) -> Vec<Entry> {
     let mut entries = Vec::new();
     match entry {
-        Entry::Read | Entry::ReadText | Entry::TableOfText => {}
+        Entry::Read | Entry::ReadText | Entry::TableOfText | Entry::Runs => {}
+        Entry::Step { steps, step } => entries.extend(smaller_steps(steps, *step)),
         Entry::Suite(asked) => entries.extend(smaller_asked(asked).into_iter().map(Entry::Suite)),
         Entry::Write { table, out } => {
             let with = |table, out: &[u8]| Entry::Write { table: Box::new(table), out: out.to_vec() };
@@ -203,13 +217,7 @@ fn smaller_entries(entry: &Entry) -> Vec<Entry> {
             entries.extend(smaller_numbers(*allowance).map(|allowance| Entry::BothEngines { allowance }))
         }
         Entry::Witnesses { given, start, allowance, steps } => {
-            let with = |start: &[u8], allowance, steps| {
-                let (given, start) = (*given, start.to_vec());
-                Entry::Witnesses { given, start, allowance, steps }
-            };
-            entries.extend(shorter(start).map(|start| with(&start, *allowance, *steps)));
-            entries.extend(smaller_numbers(*allowance).map(|allowance| with(start, allowance, *steps)));
-            entries.extend(smaller_numbers(*steps as u64).map(|steps| with(start, *allowance, steps as usize)));
+            entries.extend(smaller_walks(*given, start, *allowance, *steps))
         }
     }
     entries
@@ -221,6 +229,21 @@ fn smaller_asked(asked: &OfSuite) -> Vec<OfSuite> {
         OfSuite::Part { k } => smaller_numbers(k).map(|k| OfSuite::Part { k }).collect(),
         OfSuite::Test { k } => smaller_numbers(k).map(|k| OfSuite::Test { k }).collect(),
     }
+}
+
+/// A list without one of its steps, or a smaller step behind it.
+fn smaller_steps(steps: &[u8], step: u64) -> Vec<Entry> {
+    let without = |at: usize| [&steps[..at], &steps[at + 1..]].concat();
+    let lists = (0..steps.len()).map(|at| Entry::Step { steps: without(at), step });
+    lists.chain(smaller_numbers(step).map(|step| Entry::Step { steps: steps.to_vec(), step })).collect()
+}
+
+fn smaller_walks(given: Given, start: &[u8], allowance: u64, steps: usize) -> Vec<Entry> {
+    let with = |start: &[u8], allowance, steps| Entry::Witnesses { given, start: start.to_vec(), allowance, steps };
+    let starts = shorter(start).map(|start| with(&start, allowance, steps));
+    let allowances = smaller_numbers(allowance).map(|allowance| with(start, allowance, steps));
+    let fewer = smaller_numbers(steps as u64).map(|steps| with(start, allowance, steps as usize));
+    starts.into_iter().chain(allowances).chain(fewer).collect()
 }
 
 fn smaller_searches(given: Given, start: &[u8], out: &[u8], allowance: u64) -> Vec<Entry> {

@@ -1,7 +1,7 @@
 //! How many calls were made, and what they gave.
 
 use crate::call::{Call, Entry, Outcome, Reply};
-use cogthunder::{Answer, Axiom, Rules};
+use cogthunder::{Answer, Axiom, Rules, Taken, INITIALLY, NOTHING};
 use oracle::layout::LONGEST_TEST;
 use oracle::search::Engine;
 use oracle::walks::Given;
@@ -9,7 +9,7 @@ use std::collections::BTreeMap;
 use std::fmt;
 
 /// What a call that takes no text can be refused by.
-const REFUSALS: [u8; 19] = [1, 2, 3, 4, 5, 6, 7, 8, 9, 10, 11, 12, 13, 14, 15, 16, 17, 18, 21];
+const REFUSALS: [u8; 20] = [1, 2, 3, 4, 5, 6, 7, 8, 9, 10, 11, 12, 13, 14, 15, 16, 17, 18, 21, 24];
 /// What a call on a text can be refused by.
 const TEXT_REFUSALS: [u8; 14] = [1, 5, 7, 8, 9, 10, 11, 15, 16, 17, 19, 20, 21, 23];
 /// What a table can be refused by.
@@ -24,6 +24,8 @@ const SEARCHES: [[&str; 3]; 3] = [
     ["text found", "text none left", "text spent"],
 ];
 
+const STEPS: [&str; 3] = ["a store or fence", "a read of an initial value", "a read from an event"];
+
 #[derive(Default)]
 pub struct Tally {
     pub calls: u64,
@@ -37,6 +39,9 @@ pub struct Tally {
     /// Good tests of edition 2, and good texts.
     good_in_two: u64,
     good_texts: u64,
+    /// Steps that the machine took, by what a returned list holds for their events; and orders of all runs of some tables.
+    taken: BTreeMap<&'static str, u64>,
+    orders_of_runs: u64,
     written: u64,
     not_written: BTreeMap<u8, u64>,
 }
@@ -61,6 +66,14 @@ fn search_name(entry: &Entry, answer: &Answer) -> &'static str {
         Answer::Found { .. } => 0,
         Answer::NoneLeft { .. } => 1,
         Answer::Spent { .. } => 2,
+    }]
+}
+
+fn taken_name(taken: &Taken) -> &'static str {
+    STEPS[match taken.entry {
+        NOTHING => 0,
+        INITIALLY => 1,
+        _ => 2,
     }]
 }
 
@@ -90,6 +103,8 @@ impl Tally {
                 }
             }
             Reply::Rules(rules) => self.count_rules(*rules),
+            Reply::Taken(taken) => *self.taken.entry(taken_name(taken)).or_default() += 1,
+            Reply::Ran(ran) => self.orders_of_runs += ran.orders.len() as u64,
             Reply::Good if call.entry.name() == "verdict" => *self.verdicts.entry(VERDICTS[0]).or_default() += 1,
             Reply::Searched(answer) => *self.searches.entry(search_name(&call.entry, answer)).or_default() += 1,
             Reply::Table(_) if call.entry == Entry::ReadText => self.good_texts += 1,
@@ -114,6 +129,7 @@ impl Tally {
         let verdicts = VERDICTS.iter().filter(|&name| !self.verdicts.contains_key(name)).map(|name| name.to_string());
         let searches =
             SEARCHES.iter().flatten().filter(|&name| !self.searches.contains_key(name)).map(|name| name.to_string());
+        let steps = STEPS.iter().filter(|&name| !self.taken.contains_key(name)).map(|name| format!("step: {name}"));
         let not_written = TABLE_REFUSALS.iter().filter(|&n| !self.not_written.contains_key(n));
         let not_written = not_written.map(|n| format!("refusal {n} of a table"));
         let written = (self.written == 0).then(|| "a table that is written".to_string());
@@ -121,7 +137,7 @@ impl Tally {
         let text = (self.good_texts == 0).then(|| "a good text".to_string());
         let refusals = refusals.chain(of_texts).chain(not_written);
         let good = written.into_iter().chain(in_two).chain(text);
-        refusals.chain(rules).chain(verdicts).chain(searches).chain(good).collect()
+        refusals.chain(rules).chain(verdicts).chain(searches).chain(steps).chain(good).collect()
     }
 }
 
@@ -138,6 +154,7 @@ impl fmt::Display for Tally {
         writeln!(f, "  verdicts {}", listed(&self.verdicts))?;
         writeln!(f, "  rules    {}", listed(&self.rules))?;
         writeln!(f, "  searches {}", listed(&self.searches))?;
+        writeln!(f, "  steps    {}; orders of all runs: {}", listed(&self.taken), self.orders_of_runs)?;
         write!(f, "  tables   written: {}, refused by {}", self.written, listed(&self.not_written))
     }
 }

@@ -10,7 +10,7 @@ use oracle::generate::prng::Prng;
 use oracle::generate::text_cases::{changed_texts, cut_texts, legal_texts, lengths};
 use oracle::generate::texts::{random_text, text_of, text_with};
 use oracle::layout::MOST_EVENTS;
-use oracle::table::Table;
+use oracle::table::{Model, Table};
 use oracle::text::Document;
 use oracle::walks::Given;
 
@@ -37,7 +37,7 @@ fn read(calls: &mut Calls) -> Result<(), Box<Difference>> {
 /// A walk over a text of a small table, with any allowances and buffers; mostly to its end.
 pub fn text_walk(prng: &mut Prng, comparison: &mut Comparison) -> Result<(), Box<Difference>> {
     let events = 1 + prng.below(FEW_EVENTS);
-    let table = table_with_outcome(prng, events);
+    let table = program_with_outcome(prng, events, Model::Rvwmo);
     let bytes = any_text(prng, &table).to_string().into_bytes();
     let mut calls = Calls { comparison, bytes };
     read(&mut calls)?;
@@ -46,7 +46,7 @@ pub fn text_walk(prng: &mut Prng, comparison: &mut Comparison) -> Result<(), Box
 
 /// Searches of a text of any table, from clean prefixes and from others.
 pub fn text_searches(prng: &mut Prng, comparison: &mut Comparison) -> Result<(), Box<Difference>> {
-    let table = any_shape(prng);
+    let table = any_program(prng);
     let bytes = any_text(prng, &table).to_string().into_bytes();
     let mut calls = Calls { comparison, bytes };
     read(&mut calls)?;
@@ -59,7 +59,7 @@ pub fn text_searches(prng: &mut Prng, comparison: &mut Comparison) -> Result<(),
 /// All witnesses of a text of a small table by the iterator, from the beginning or from any start.
 pub fn text_witnesses(prng: &mut Prng, comparison: &mut Comparison) -> Result<(), Box<Difference>> {
     let events = 1 + prng.below(FEW_EVENTS);
-    let table = table_with_outcome(prng, events);
+    let table = program_with_outcome(prng, events, Model::Rvwmo);
     let text = any_text(prng, &table).to_string().into_bytes();
     let mut calls = Calls { comparison, bytes: text };
     for _ in 0..SOME_CALLS {
@@ -83,7 +83,7 @@ fn read_and_search(prng: &mut Prng, calls: &mut Calls, table: &Table) -> Result<
 
 /// A text, damaged in one place or two.
 pub fn damaged_texts(prng: &mut Prng, comparison: &mut Comparison) -> Result<(), Box<Difference>> {
-    let table = any_shape(prng);
+    let table = any_program(prng);
     let text = any_text(prng, &table).to_string().into_bytes();
     for _ in 0..SOME_CALLS {
         let mut bytes = damaged_text(prng, &text);
@@ -97,7 +97,7 @@ pub fn damaged_texts(prng: &mut Prng, comparison: &mut Comparison) -> Result<(),
 
 /// A text with another number in a field; now and then one of fences alone.
 pub fn broken_lines(prng: &mut Prng, comparison: &mut Comparison) -> Result<(), Box<Difference>> {
-    let table = if prng.one_in(8) { any_fences(prng) } else { any_shape(prng) };
+    let table = if prng.one_in(8) { any_fences(prng) } else { any_program(prng) };
     let text = if prng.one_in(8) { text_of(&table) } else { any_text(prng, &table) };
     for _ in 0..SOME_CALLS {
         let mut text = text.clone();
@@ -133,7 +133,7 @@ const LEVELS: [(&str, &str); 4] = [("not ", ""), ("( ", " or x0=1 )"), ("( x0=0 
 /// Texts with levels of any mixture around their condition.
 pub fn deep_texts(prng: &mut Prng, comparison: &mut Comparison) -> Result<(), Box<Difference>> {
     let events = 1 + prng.below(FEW_EVENTS);
-    let table = table_with_outcome(prng, events);
+    let table = program_with_outcome(prng, events, Model::Rvwmo);
     for _ in 0..SOME_CALLS {
         let mut condition = any_text(prng, &table).condition.to_string();
         for _ in 0..prng.below(MOST_LEVELS) {
@@ -158,7 +158,7 @@ pub fn long_texts(prng: &mut Prng, comparison: &mut Comparison) -> Result<(), Bo
 
 /// Random bytes, the front of a text with random bytes behind it, and a block.
 pub fn other_bytes(prng: &mut Prng, comparison: &mut Comparison) -> Result<(), Box<Difference>> {
-    let table = any_shape(prng);
+    let table = any_program(prng);
     let length = prng.below(LONGEST_TEXT);
     let bytes = match prng.below(4) {
         0 => some_bytes(prng, length),

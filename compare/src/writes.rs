@@ -47,7 +47,7 @@ fn any_length(prng: &mut Prng) -> usize {
 /// Puts another number into one field of a good table, or another operation into an AMO of it.
 fn damage(prng: &mut Prng, table: &mut RawTable) {
     let event = prng.below(table.count.into());
-    match prng.below(20) {
+    match prng.below(21) {
         0 => table.harts = any_byte(prng),
         1 => table.locations = any_byte(prng),
         2 => table.count = any_byte(prng),
@@ -58,7 +58,8 @@ fn damage(prng: &mut Prng, table: &mut RawTable) {
             let slot = prng.below(SLOTS);
             damage_event(prng, &mut table.events[slot]);
         }
-        7..=9 => {
+        7 => table.model = any_byte(prng),
+        8..=10 => {
             let amo = table.events.iter().position(|event| event.kind == Kind::Amo as u8);
             operate(prng, &mut table.events[amo.unwrap_or(event)]);
         }
@@ -123,7 +124,7 @@ mod tests {
     use cogthunder::{Accesses, Annotation};
     use oracle::encode::{encode, encode_fitting};
     use oracle::generate::random::{any_table, wide_table};
-    use oracle::table::{names, names_location, Event, Table};
+    use oracle::table::{names, names_location, Event, Model, Table};
 
     const TABLES: usize = 5000;
 
@@ -184,6 +185,7 @@ mod tests {
 
     fn built(table: &Table) -> cogthunder::Table {
         let mut built = cogthunder::Table::new(table.harts as u8, table.locations as u8);
+        built.model = table.model as u8;
         for event in &table.events {
             let number = add(&mut built, event);
             say(&mut built, number, event);
@@ -201,7 +203,7 @@ mod tests {
     fn tables_built_call_by_call_have_the_blocks_of_the_independent_program() {
         let mut prng = Prng::new(3);
         for _ in 0..TABLES {
-            let table = any_table(&mut prng);
+            let table = any_table(&mut prng).in_model(*prng.pick(&Model::ALL));
             let block = built(&table).block().expect("the table is good");
             assert_eq!(block, encode(&table)[..]);
         }
@@ -211,7 +213,7 @@ mod tests {
     fn tables_of_more_events_have_the_tests_of_the_independent_program() {
         let mut prng = Prng::new(4);
         for _ in 0..TABLES {
-            let table = wide_table(&mut prng);
+            let table = wide_table(&mut prng).in_model(*prng.pick(&Model::ALL));
             let test = built(&table).test().expect("the table is good");
             assert_eq!(test, encode_fitting(&table));
         }

@@ -32,6 +32,7 @@ pub fn encode_raw(edition: Edition, table: &RawTable) -> Vec<u8> {
     test[LOCATIONS_AT] = table.locations;
     test[EVENTS_AT] = table.count;
     test[STATED_AT] = table.stated;
+    test[MODEL_AT] = table.model;
     for location in 0..MAX_LOCATIONS {
         put_word(&mut test, initial_at(location), table.initial[location]);
         put_word(&mut test, final_at(location), table.finals[location]);

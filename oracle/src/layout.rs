@@ -64,8 +64,10 @@ pub const LOCATIONS_AT: usize = 6;
 pub const EVENTS_AT: usize = 7;
 /// "8: mask of locations whose final value is stated"
 pub const STATED_AT: usize = 8;
-/// "9..15: zero"
-pub const HEADER_ZEROS: Range<usize> = 9..16;
+/// "Header byte 9 becomes the model"
+pub const MODEL_AT: usize = 9;
+/// "9..15: zero", behind the model
+pub const HEADER_ZEROS: Range<usize> = 10..16;
 /// "32..287: event records", of edition 1; in edition 2 "the header block as today, records area
 /// zero"
 pub const RECORDS_AREA: Range<usize> = 32..288;

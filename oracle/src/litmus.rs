@@ -3,7 +3,8 @@
 use crate::layout::MAX_LOCATIONS;
 use crate::operation::Operation;
 use crate::table::{
-    Event, Kind, Table, ACQUIRE_RCPC, ACQUIRE_RCSC, PR, PW, RELEASE_RCPC, RELEASE_RCSC, SR, SW,
+    Event, Kind, Model, Table, ACQUIRE_RCPC, ACQUIRE_RCSC, PR, PW, RELEASE_RCPC, RELEASE_RCSC, SR,
+    SW,
 };
 
 /// Locations of the litmus tests.
@@ -98,10 +99,15 @@ pub fn table(events: Vec<Event>) -> Table {
     let harts = events.iter().map(|e| e.hart + 1).max().unwrap_or(1);
     let locations = events.iter().map(|e| e.location + 1).max().unwrap_or(1);
     let zeros = [0; MAX_LOCATIONS];
-    Table { harts, locations, stated: 0, initial: zeros, finals: zeros, events }
+    let model = Model::Rvwmo;
+    Table { harts, locations, stated: 0, model, initial: zeros, finals: zeros, events }
 }
 
 impl Table {
+    pub fn in_model(self, model: Model) -> Table {
+        Table { model, ..self }
+    }
+
     pub fn with_final(mut self, location: usize, value: u16) -> Table {
         self.stated |= 1 << location;
         self.finals[location] = value;

@@ -6,7 +6,7 @@ use crate::layout::*;
 use crate::record::RawEvent;
 use crate::stream::{Malformed, Stream};
 use crate::table::{
-    fields_broken, names_location, refuse_if, refuse_stating_table, Line, Refusal, Table,
+    fields_broken, names_location, refuse_if, refuse_stating_table, Line, Model, Refusal, Table,
 };
 
 /// How many events such a table has room for.
@@ -18,6 +18,7 @@ pub struct RawTable {
     pub locations: u8,
     pub count: u8,
     pub stated: u8,
+    pub model: u8,
     pub initial: [u16; MAX_LOCATIONS],
     pub events: [RawEvent; SLOTS],
     pub finals: [u16; MAX_LOCATIONS],
@@ -36,6 +37,7 @@ impl RawTable {
             locations: test[LOCATIONS_AT],
             count: test[EVENTS_AT],
             stated: test[STATED_AT],
+            model: test[MODEL_AT],
             initial: values(initial_at),
             events,
             finals: values(final_at),
@@ -49,7 +51,7 @@ impl RawTable {
 
     /// The fields in their order, without the padding that a struct of C has.
     pub fn push_to(&self, stream: &mut Vec<u8>) {
-        stream.extend([self.harts, self.locations, self.count, self.stated]);
+        stream.extend([self.harts, self.locations, self.count, self.stated, self.model]);
         stream.extend(self.initial.iter().flat_map(|value| value.to_le_bytes()));
         for event in &self.events {
             stream.extend([event.kind, event.hart, event.location, event.flags]);
@@ -63,15 +65,15 @@ impl RawTable {
 
     /// What `push_to` writes.
     pub fn take_from(stream: &mut Stream) -> Result<RawTable, Malformed> {
-        let [harts, locations, count, stated] =
-            [stream.byte()?, stream.byte()?, stream.byte()?, stream.byte()?];
+        let [harts, locations, count, stated, model] =
+            [stream.byte()?, stream.byte()?, stream.byte()?, stream.byte()?, stream.byte()?];
         let initial = take_values(stream)?;
         let mut events = [RawEvent::default(); SLOTS];
         for event in &mut events {
             *event = RawEvent::take_from(stream)?;
         }
         let finals = take_values(stream)?;
-        Ok(RawTable { harts, locations, count, stated, initial, events, finals })
+        Ok(RawTable { harts, locations, count, stated, model, initial, events, finals })
     }
 }
 
@@ -86,6 +88,7 @@ impl From<&Table> for RawTable {
             locations: table.locations as u8,
             count: table.events.len() as u8,
             stated: table.stated,
+            model: table.model as u8,
             initial: table.initial,
             events,
             finals: table.finals,
@@ -134,13 +137,14 @@ pub fn write(raw: &RawTable, buffer: &mut [u8]) -> Result<(), Refusal> {
 }
 
 /// 5: "harts, locations or events out of range, or the final mask names a location not in
-/// the test"
+/// the test"; a model other than 0 and 1
 fn ranges_broken(raw: &RawTable) -> bool {
     let in_range = |number: u8, most: usize| (1..=most).contains(&number.into());
     !in_range(raw.harts, MAX_HARTS)
         || !in_range(raw.locations, MAX_LOCATIONS)
         || !in_range(raw.count, Edition::One.max_events())
         || (raw.locations.into()..MAX_LOCATIONS).any(|l| names_location(raw.stated, l))
+        || Model::from_number(raw.model).is_none()
 }
 
 /// 6, of a table: "initial values of locations not in the test, final values not stated,
@@ -158,6 +162,7 @@ fn typed(raw: &RawTable) -> Result<Table, Refusal> {
         harts: raw.harts.into(),
         locations: raw.locations.into(),
         stated: raw.stated,
+        model: Model::from_number(raw.model).expect("line 5 refuses other models"),
         initial: raw.initial,
         finals: raw.finals,
         events: Vec::new(),
@@ -185,11 +190,11 @@ mod tests {
     }
 
     #[test]
-    fn a_table_is_streamed_in_740_bytes() {
+    fn a_table_is_streamed_in_741_bytes() {
         let table = RawTable::of_block(&encode(&litmus::counter()));
         let mut stream = Vec::new();
         table.push_to(&mut stream);
-        assert_eq!(stream.len(), 740);
+        assert_eq!(stream.len(), 741);
         assert_eq!(RawTable::take_from(&mut Stream::new(&stream)).unwrap(), table);
     }
 }

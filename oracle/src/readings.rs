@@ -20,9 +20,10 @@ pub fn print_readings(input: &[u8]) -> Result<String, Malformed> {
 
 /// Header, initial values, final values, then each event, parted by slashes.
 pub fn table_line(table: &Table) -> String {
+    let Table { harts, locations, stated, model, .. } = table;
     let count = table.events.len();
     let mut parts = vec![
-        format!("table {} {} {count} {}", table.harts, table.locations, table.stated),
+        format!("table {} {} {count} {} {}", harts, locations, stated, *model as u8),
         spaced(&table.initial),
         spaced(&table.finals),
     ];

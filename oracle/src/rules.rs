@@ -126,17 +126,17 @@ fn fence_orders(fence: &Event, a: &Event, b: &Event) -> bool {
 
 /// Rule 5: "a has an acquire."
 fn acquire(table: &Table, a: usize, _: usize) -> bool {
-    table.events[a].has_acquire()
+    table.annotations(a) & ACQUIRES != 0
 }
 
 /// Rule 6: "b has a release."
 fn release(table: &Table, _: usize, b: usize) -> bool {
-    table.events[b].has_release()
+    table.annotations(b) & RELEASES != 0
 }
 
 /// Rule 7: "Both have an RCsc annotation."
 fn both_rcsc(table: &Table, a: usize, b: usize) -> bool {
-    let is_rcsc = |event: usize| table.events[event].flags & (ACQUIRE_RCSC | RELEASE_RCSC) != 0;
+    let is_rcsc = |event: usize| table.annotations(event) & (ACQUIRE_RCSC | RELEASE_RCSC) != 0;
     is_rcsc(a) && is_rcsc(b)
 }
 

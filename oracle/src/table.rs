@@ -26,13 +26,28 @@ impl Kind {
     }
 }
 
+/// "Header byte 9 becomes the model, 0 or 1": RVWMO, RVTSO.
+#[derive(Clone, Copy, PartialEq, Eq, Debug)]
+pub enum Model {
+    Rvwmo = 0,
+    Rvtso = 1,
+}
+
+impl Model {
+    pub const ALL: [Model; 2] = [Model::Rvwmo, Model::Rvtso];
+
+    pub fn from_number(number: u8) -> Option<Model> {
+        Model::ALL.into_iter().find(|&model| model as u8 == number)
+    }
+}
+
 /// "Memory flags from bit 0: acquire-RCpc, acquire-RCsc, release-RCpc, release-RCsc."
 pub const ACQUIRE_RCPC: u8 = 1;
 pub const ACQUIRE_RCSC: u8 = 2;
 pub const RELEASE_RCPC: u8 = 4;
 pub const RELEASE_RCSC: u8 = 8;
-const ACQUIRES: u8 = ACQUIRE_RCPC | ACQUIRE_RCSC;
-const RELEASES: u8 = RELEASE_RCPC | RELEASE_RCSC;
+pub const ACQUIRES: u8 = ACQUIRE_RCPC | ACQUIRE_RCSC;
+pub const RELEASES: u8 = RELEASE_RCPC | RELEASE_RCSC;
 
 /// "Fence flags from bit 0: pr, pw, sr, sw"
 pub const PR: u8 = 1;
@@ -83,7 +98,8 @@ impl Event {
         !self.is_fence()
     }
 
-    /// Flags of a fence mean other things, so only memory events have annotations.
+    /// Carried ones, whatever the model. Flags of a fence mean other things, so only memory events
+    /// have annotations.
     pub fn has_acquire(&self) -> bool {
         self.is_memory() && self.flags & ACQUIRES != 0
     }
@@ -98,6 +114,7 @@ pub struct Table {
     pub harts: usize,
     pub locations: usize,
     pub stated: u8,
+    pub model: Model,
     pub initial: [u16; MAX_LOCATIONS],
     pub finals: [u16; MAX_LOCATIONS],
     pub events: Vec<Event>,
@@ -120,6 +137,20 @@ impl Table {
     /// "Program order is table order within a hart."
     pub fn in_program_order(&self, a: usize, b: usize) -> bool {
         a < b && self.events[a].hart == self.events[b].hart
+    }
+
+    /// The annotations of a memory event as the rules read them: in RVTSO "every load or LR behaves
+    /// as if it had acquire-RCpc, every store or SC release-RCpc, and every AMO acquire-RCsc and
+    /// release-RCsc, besides what it carries".
+    pub fn annotations(&self, event: usize) -> u8 {
+        let event = &self.events[event];
+        let added = match (self.model, event.kind) {
+            (Model::Rvwmo, _) | (_, Kind::Fence | Kind::FenceTso) => 0,
+            (Model::Rvtso, Kind::Load | Kind::Lr) => ACQUIRE_RCPC,
+            (Model::Rvtso, Kind::Store | Kind::Sc) => RELEASE_RCPC,
+            (Model::Rvtso, Kind::Amo) => ACQUIRE_RCSC | RELEASE_RCSC,
+        };
+        event.flags | added
     }
 
     pub fn memory_events(&self) -> Vec<usize> {
@@ -170,6 +201,7 @@ pub enum Line {
     Levels = 20,
     UnusedLocation = 21,
     Names = 23,
+    Step = 24,
 }
 
 #[derive(Clone, Copy, PartialEq, Eq, Debug)]
@@ -252,13 +284,14 @@ pub fn refuse_unused(table: &Table, is_stated: impl Fn(usize) -> bool) -> Result
 }
 
 /// 5: "harts, locations or events out of range, or the final mask names a location not in
-/// the test"
+/// the test"; a model other than 0 and 1
 fn ranges_broken(edition: Edition, test: &[u8]) -> bool {
     let (harts, locations, events) = counts(test);
     !(1..=MAX_HARTS).contains(&harts)
         || !(1..=MAX_LOCATIONS).contains(&locations)
         || !(1..=edition.max_events()).contains(&events)
         || (locations..MAX_LOCATIONS).any(|l| names_location(test[STATED_AT], l))
+        || Model::from_number(test[MODEL_AT]).is_none()
 }
 
 fn counts(test: &[u8]) -> (usize, usize, usize) {
@@ -298,6 +331,7 @@ fn decode(edition: Edition, test: &[u8]) -> Result<Table, Refusal> {
         harts,
         locations,
         stated: test[STATED_AT],
+        model: Model::from_number(test[MODEL_AT]).expect("line 5 refuses other models"),
         initial: std::array::from_fn(|l| word(test, initial_at(l))),
         finals: std::array::from_fn(|l| word(test, final_at(l))),
         events: Vec::new(),
@@ -453,11 +487,33 @@ mod tests {
     }
 
     #[test]
+    fn byte_9_is_the_model_and_others_refuse_by_5() {
+        for model in Model::ALL {
+            assert_eq!(read(&c1_with(MODEL_AT, model as u8)), Ok(c1().in_model(model)));
+        }
+        for number in [2, 3, 128, 255] {
+            assert_eq!(read(&c1_with(MODEL_AT, number)), refused(Line::Ranges));
+        }
+    }
+
+    #[test]
+    fn line_8_looks_at_what_is_carried_in_both_models() {
+        for model in Model::ALL {
+            let alone = |event: Event| read(&encode(&table(vec![event]).in_model(model))).is_ok();
+            assert!(!alone(load(0, X, 0).flags(RELEASE_RCPC)));
+            assert!(!alone(store(0, X, 1).flags(ACQUIRE_RCPC)));
+            assert!(alone(load(0, X, 0).flags(ACQUIRE_RCSC)));
+            assert!(alone(store(0, X, 1).flags(RELEASE_RCSC)));
+            assert!(alone(amo(0, X, 0, 1).flags(ACQUIRE_RCPC | RELEASE_RCPC)));
+        }
+    }
+
+    #[test]
     fn bytes_named_zero_are_zero() {
         let past = record_at(4);
         let values = [initial_at(2), final_at(0)];
         let records = [past, past + field::OPERATION, past + field::OPERAND];
-        for at in [&[9, 15, 304, 507], &values[..], &records].concat() {
+        for at in [&[10, 15, 304, 507], &values[..], &records].concat() {
             assert_eq!(read(&c1_with(at, 1)), refused(Line::Zeros), "{at}");
         }
     }

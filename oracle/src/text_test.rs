@@ -6,7 +6,7 @@ use crate::layout::{Edition, MAX_HARTS, MAX_LOCATIONS};
 use crate::rules::is_lawful;
 use crate::search::{Answer, Engine, Prefixes};
 use crate::table::{
-    form_broken, refuse_if, refuse_table, refuse_unused, Event, Line, Refusal, Table,
+    form_broken, refuse_if, refuse_table, refuse_unused, Event, Line, Model, Refusal, Table,
 };
 use crate::text::{read_document, Breach, Document};
 use std::fmt;
@@ -70,7 +70,7 @@ pub fn read_text(text: &[u8]) -> Result<TextTest, TextRefusal> {
     Ok(TextTest { table, condition: document.condition })
 }
 
-/// The table of a legal text. It states no final value, so that no byte named zero is left for 6;
+/// The table of a legal text: "texts are of model 0". It states no final value, so that no byte named zero is left for 6;
 /// refuses by 5 and 7.
 fn table_of(document: &Document) -> Result<Table, Refusal> {
     let (harts, locations) = least_numbers(document);
@@ -84,6 +84,7 @@ fn table_of(document: &Document) -> Result<Table, Refusal> {
         harts,
         locations,
         stated: 0,
+        model: Model::Rvwmo,
         initial: std::array::from_fn(|l| given(l).unwrap_or(0)),
         finals: [0; MAX_LOCATIONS],
         events: Vec::new(),

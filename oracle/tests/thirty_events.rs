@@ -207,7 +207,7 @@ fn each_later_block_has_its_check() {
 fn bytes_named_zero_are_zero() {
     // Two events, one location, no stated final value: all else is zero.
     let test = stores(2);
-    let header = (9..16).chain(18..508);
+    let header = (10..16).chain(18..508);
     let second = (534..544).chain(566..1020);
     for at in header.chain(second).chain(1024..1532) {
         assert_eq!(read(&with_byte(&test, at, 1)), refused(Line::Zeros), "byte {at}");

@@ -2,6 +2,7 @@
 //! three where it has more than 16 events.
 //!
 //!     table HARTS LOCATIONS               begins a table
+//!     tso                                 its model is RVTSO
 //!     load HART LOCATION READ             store HART LOCATION WRITTEN
 //!     lr HART LOCATION READ               sc HART LOCATION WRITTEN
 //!     amo HART LOCATION READ WRITTEN
@@ -78,9 +79,10 @@ fn add_event(table: &mut Table, words: &[&str]) -> Option<u8> {
     })
 }
 
-/// Something about an event or a location.
+/// Something about an event, a location or the whole table.
 fn say(table: &mut Table, words: &[&str]) -> Option<()> {
     match words {
+        ["tso"] => table.tso(),
         ["annotate", event, word] => table.annotate(number(event)?, annotation(word)?),
         ["address", event, on] => table.address_dependency(number(event)?, number(on)?),
         ["data", event, on] => table.data_dependency(number(event)?, number(on)?),

@@ -1,6 +1,7 @@
 //! What the bench answers, and each answer in words.
 
 use crate::rules::Rules;
+use crate::{INITIALLY, NOTHING};
 use std::error::Error;
 use std::fmt;
 
@@ -166,13 +167,33 @@ impl fmt::Display for Answer {
     }
 }
 
+/// A step that the machine for RVTSO took.
+#[derive(Clone, Copy, PartialEq, Eq, Hash, Debug)]
+pub struct Taken {
+    /// The event that was issued or drained.
+    pub event: u8,
+    /// What a returned list holds for the event: of a reader the event whose write it returns from, or
+    /// [`INITIALLY`](crate::INITIALLY); of a store or fence [`NOTHING`](crate::NOTHING).
+    pub entry: u8,
+}
+
+impl fmt::Display for Taken {
+    fn fmt(&self, f: &mut fmt::Formatter) -> fmt::Result {
+        match *self {
+            Taken { event, entry: NOTHING } => write!(f, "event {event}"),
+            Taken { event, entry: INITIALLY } => write!(f, "event {event}, which returns the initial value"),
+            Taken { event, entry } => write!(f, "event {event}, which returns from event {entry}"),
+        }
+    }
+}
+
 #[cfg(test)]
 mod tests {
     use super::*;
 
     #[test]
     fn each_refusal_has_its_line() {
-        let numbers: Vec<u8> = (1..=21).chain([23]).collect();
+        let numbers: Vec<u8> = (1..=21).chain([23, 24]).collect();
         let listed: Vec<u8> =
             REFUSALS.lines().map(|line| line.split_once('\t').expect("a tab").0.parse().expect("a number")).collect();
         assert_eq!(listed, numbers);
@@ -203,5 +224,8 @@ mod tests {
         );
         assert_eq!(Verdict::Allowed.to_string(), "allowed");
         assert_eq!(Answer::NoneLeft { visited: 18 }.to_string(), "no witness left, 18 prefixes visited");
+        assert_eq!(Taken { event: 3, entry: NOTHING }.to_string(), "event 3");
+        assert_eq!(Taken { event: 3, entry: INITIALLY }.to_string(), "event 3, which returns the initial value");
+        assert_eq!(Taken { event: 3, entry: 2 }.to_string(), "event 3, which returns from event 2");
     }
 }

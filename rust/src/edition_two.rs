@@ -25,7 +25,8 @@ const COVERED: usize = BLOCK - 4;
 pub fn encode(table: &Table) -> [u8; TEST] {
     let mut test = [0; TEST];
     test[..MARKER.len()].copy_from_slice(&MARKER);
-    test[MARKER.len()..][..5].copy_from_slice(&[NUMBER, table.harts, table.locations, table.count, table.stated]);
+    let header = [NUMBER, table.harts, table.locations, table.count, table.stated, table.model];
+    test[MARKER.len()..][..header.len()].copy_from_slice(&header);
     put_values(&mut test[INITIAL_AT..], &table.initial);
     put_values(&mut test[FINALS_AT..], &table.finals);
     for (k, event) in table.events[..EVENTS].iter().enumerate() {

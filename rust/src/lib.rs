@@ -1,8 +1,9 @@
-//! A proved bench for the RISC-V memory model (RVWMO).
+//! A proved bench for the RISC-V memory models, RVWMO and RVTSO.
 //!
 //! A test is a block of 512 bytes, or three of them in edition 2: loads, stores, AMOs, LR/SC pairs and fences of up to four
 //! harts, with the values that were read and the final values that are stated. The bench says whether the rules allow that
-//! outcome, and by which global memory orders. Events and locations are numbered from 0, in the order of the table.
+//! outcome, and by which global memory orders. Events and locations are numbered from 0, in the order of the table. A test states
+//! its model; a new table's is RVWMO, and [`Table::tso`] makes it RVTSO.
 //!
 //! The functions here take any bytes: what they cannot work on they refuse, by a [`Refusal`] that says why, and a refusal
 //! alters no buffer. They call the proved static library, which allocates nothing and has no state.
@@ -29,7 +30,7 @@
 //! ```
 //!
 //! A test may also be a text of up to 2,048 bytes, which asks for a condition instead of stated values; [`read_text`] says how
-//! it is written. [`search_text`] and [`Witnesses::of_text`] take it, and all other functions take blocks only:
+//! it is written. Its model is RVWMO. [`search_text`] and [`Witnesses::of_text`] take it, and all other functions take blocks only:
 //!
 //! ```
 //! use cogthunder::Witnesses;
@@ -46,6 +47,8 @@
 //! assert_eq!(orders[0], [1, 2, 3, 0]);
 //! # Ok::<(), cogthunder::Refusal>(())
 //! ```
+//!
+//! For tests of RVTSO there is a machine of single steps, with a store buffer for each hart: [`step`].
 
 #![deny(missing_docs)]
 
@@ -58,10 +61,10 @@ mod suite;
 mod table;
 mod witnesses;
 
-pub use answers::{Answer, Axiom, Refusal, Verdict};
+pub use answers::{Answer, Axiom, Refusal, Taken, Verdict};
 pub use library::{
-    blocks, next_test, part, read, read_text, returns, rules, search, search_pruned, search_text, test_length, verdict,
-    write,
+    blocks, next_test, part, read, read_text, returns, rules, search, search_pruned, search_text, step, test_length,
+    verdict, write,
 };
 pub use operation::Operation;
 pub use rules::Rules;

@@ -1,6 +1,6 @@
 //! The proved functions, each answer of which is one word.
 
-use crate::answers::{Answer, Axiom, Refusal, Verdict};
+use crate::answers::{Answer, Axiom, Refusal, Taken, Verdict};
 use crate::rules::Rules;
 use crate::table::{Event, Table};
 
@@ -65,6 +65,8 @@ extern "C" {
         allowance: u64,
     ) -> u64;
 
+    fn ct_step(test: *const u8, test_len: usize, steps: *const u8, steps_len: usize, step: u64) -> u64;
+
     fn ct_blocks(suite: *const u8, suite_len: usize) -> u64;
 
     fn ct_part_of(suite: *const u8, suite_len: usize, k: u64) -> Part;
@@ -82,8 +84,9 @@ struct Part {
     length: u64,
 }
 
-/// A table is passed by value: an event ends with two bytes of padding, and there is no other, as in the C header.
-const _: () = assert!(size_of::<Event>() == 24 && size_of::<Table>() == 804);
+/// A table is passed by value: one byte of padding behind the model, two behind the initial values, and two at the end of each
+/// event, as in the C header.
+const _: () = assert!(size_of::<Event>() == 24 && size_of::<Table>() == 808);
 
 /// Byte 0 of a word.
 const GOOD: u8 = 0;
@@ -96,6 +99,7 @@ const FINAL_VALUE: u8 = 6;
 const FOUND: u8 = 7;
 const NONE_LEFT: u8 = 8;
 const SPENT: u8 = 9;
+const STEP_TAKEN: u8 = 10;
 
 /// In the place of a record where a refusal names none.
 const NO_RECORD: u8 = 255;
@@ -380,6 +384,51 @@ fn searched(word: u64) -> Result<Answer, Refusal> {
     })
 }
 
+/// One step of a machine for RVTSO, behind a list of steps: its event, and what a returned list holds for it.
+///
+/// A hart issues its next event, or drains its oldest buffered store. Stores and SCs enter the hart's buffer when they are
+/// issued, and memory when they drain; fences just pass. Loads, LRs and AMOs read when they are issued: a load or LR from the
+/// newest store to its location in its own hart's buffer, if there is one, else from memory; an AMO reads and writes memory at
+/// once. A reader isn't issued while a store in its hart's buffer has to come before it by a rule that doesn't look at what is
+/// returned, or while the store that it would read from the buffer is an SC or depends on a buffered SC by its address or data.
+/// An SC drains only if atomicity allows it.
+///
+/// A step is one byte: the hart to issue, or the hart plus 4 to drain. A state is the list of the steps so far, empty at first;
+/// where a step is taken, add it to the list. The order of the drains, loads, LRs and AMOs of complete runs, in which every
+/// event is issued and every buffer is empty, are exactly the orders that the rules allow in RVTSO, with the same returns.
+///
+/// It is refused by 1 to 11 and 21, then by 24: the list isn't a run of the machine, the machine doesn't take the step (any
+/// number may be asked for), or the model isn't RVTSO.
+///
+/// ```
+/// use cogthunder::{step, Table, Taken, INITIALLY, NOTHING};
+///
+/// // Store buffering: each hart stores, then loads what the other stores.
+/// let mut table = Table::new(2, 2);
+/// table.store(0, 0, 1);
+/// table.load(0, 1, 0);
+/// table.store(1, 1, 1);
+/// table.load(1, 0, 0);
+/// table.tso();
+/// let block = table.block()?;
+///
+/// // Hart 0 issues its store, which waits in the buffer, and its load, which reads memory past it.
+/// assert_eq!(step(&block, &[], 0)?, Taken { event: 0, entry: NOTHING });
+/// assert_eq!(step(&block, &[0], 0)?, Taken { event: 1, entry: INITIALLY });
+/// // It has no event left; its store drains, and hart 1 reads what it wrote.
+/// assert_eq!(step(&block, &[0, 0], 0).unwrap_err().number, 24);
+/// assert_eq!(step(&block, &[0, 0], 4)?, Taken { event: 0, entry: NOTHING });
+/// assert_eq!(step(&block, &[0, 0, 4, 1], 1)?, Taken { event: 3, entry: 0 });
+/// # Ok::<(), cogthunder::Refusal>(())
+/// ```
+pub fn step(test: &[u8], steps: &[u8], step: u64) -> Result<Taken, Refusal> {
+    let word = unsafe { ct_step(test.as_ptr(), test.len(), steps.as_ptr(), steps.len(), step) };
+    match parts(word)? {
+        [STEP_TAKEN, event, entry, _] => Ok(Taken { event, entry }),
+        _ => unreachable!("a step has no other case"),
+    }
+}
+
 /// How many blocks a suite has; a last part block counts. Its tests are [`Tests`](crate::Tests).
 ///
 /// ```
@@ -451,7 +500,7 @@ pub fn next_test(suite: &[u8], k: u64) -> u64 {
 #[cfg(test)]
 mod tests {
     use super::*;
-    use crate::INITIALLY;
+    use crate::{INITIALLY, NOTHING};
 
     #[test]
     fn the_word_of_a_refusal_has_a_record_or_a_place() {
@@ -479,6 +528,70 @@ mod tests {
             let answer = search_text(&text(condition), &[], &mut [0], 1);
             assert_eq!(answer, Ok(Answer::Found { len: 1, visited: 1 }));
         }
+    }
+
+    /// LR x (0), SC x (1), a store of y with data of the SC (2), a load of y (3); hart 1 stores x (4).
+    fn pair_and_store() -> Vec<u8> {
+        let mut table = Table::new(2, 2);
+        table.lr(0, 0, 0);
+        let sc = table.sc(0, 0, 1);
+        let store = table.store(0, 1, 1);
+        table.data_dependency(store, sc);
+        table.load(0, 1, 1);
+        table.store(1, 0, 2);
+        table.tso();
+        table.block().expect("the table is good").to_vec()
+    }
+
+    #[test]
+    fn the_word_of_a_step_has_its_event_and_entry() {
+        let (block, steps) = (pair_and_store(), [0, 0, 0, 4]);
+        let word = unsafe { ct_step(block.as_ptr(), block.len(), steps.as_ptr(), steps.len(), 0) };
+        assert_eq!(word.to_le_bytes(), [STEP_TAKEN, 3, 2, 0, 0, 0, 0, 0]);
+        let word = unsafe { ct_step(block.as_ptr(), block.len(), steps.as_ptr(), steps.len(), u64::MAX) };
+        assert_eq!(word.to_le_bytes(), [REFUSED, 24, NO_RECORD, 0, 0, 0, 0, 0]);
+    }
+
+    #[test]
+    fn a_run_goes_to_its_end() {
+        let block = pair_and_store();
+        let run = [0, 0, 0, 4, 0, 4, 1, 5];
+        let taken = [
+            (0, INITIALLY),
+            (1, NOTHING),
+            (2, NOTHING),
+            (1, NOTHING),
+            (3, 2),
+            (2, NOTHING),
+            (4, NOTHING),
+            (4, NOTHING),
+        ];
+        for (place, &number) in run.iter().enumerate() {
+            let (event, entry) = taken[place];
+            assert_eq!(step(&block, &run[..place], number.into()), Ok(Taken { event, entry }));
+        }
+        for number in 0..=8 {
+            assert_eq!(step(&block, &run, number).map_err(|refusal| refusal.number), Err(24));
+        }
+    }
+
+    #[test]
+    fn steps_that_the_machine_does_not_take() {
+        let refusal =
+            |test: &[u8], steps: &[u8], number: u64| step(test, steps, number).map_err(|refusal| refusal.number);
+        let block = pair_and_store();
+        // The load would read from a store that depends on a buffered SC; hart 1's store came between the LR and its SC.
+        assert_eq!(refusal(&block, &[0, 0, 0], 0), Err(24));
+        assert_eq!(refusal(&block, &[0, 0, 1, 5], 4), Err(24));
+        for number in [2, 4, 5, 8, 255, 256, 1 << 32, u64::MAX] {
+            assert_eq!(refusal(&block, &[], number), Err(24));
+        }
+        // A list that isn't a run, and one that is long.
+        assert_eq!(refusal(&block, &[4], 0), Err(24));
+        assert_eq!(refusal(&block, &[0; 1000], 0), Err(24));
+        // Another model, and a test that is refused before.
+        assert_eq!(refusal(include_bytes!("../../samples/C1.block"), &[], 0), Err(24));
+        assert_eq!(refusal(&block[1..], &[9], 9), Err(1));
     }
 
     #[test]

@@ -34,6 +34,9 @@ const SC: u8 = 5;
 const FENCE: u8 = 6;
 const FENCE_TSO: u8 = 7;
 
+/// The model of a table whose events have the annotations that the Ztso extension adds.
+const RVTSO: u8 = 1;
+
 /// An event of a [`Table`], by the fields of its record. Bit k of a mask (bit 0 lowest) names event k.
 #[repr(C)]
 #[derive(Clone, Copy, Default, PartialEq, Eq, Hash, Debug)]
@@ -115,6 +118,8 @@ pub struct Table {
     pub count: u8,
     /// Mask of the locations whose final value is stated; bit 0, the lowest, names location 0.
     pub stated: u8,
+    /// The memory model: 0 RVWMO, 1 RVTSO.
+    pub model: u8,
     /// The initial value of each location; 0 for those that aren't in the test.
     pub initial: [u16; LOCATIONS],
     /// The events in table order; those past `count` are zero in each field.
@@ -151,9 +156,41 @@ pub enum Annotation {
 
 /// An empty table, and its events in table order. Each function that adds an event gives its number.
 impl Table {
-    /// A table without events, whose locations are 0 at first and have no stated final value.
+    /// A table without events, whose locations are 0 at first and have no stated final value. Its model is RVWMO.
     pub fn new(harts: u8, locations: u8) -> Table {
         Table { harts, locations, ..Table::default() }
+    }
+
+    /// Gives the table the model RVTSO: every load or LR behaves as if it had acquire-RCpc, every store or SC release-RCpc, and
+    /// every AMO acquire-RCsc and release-RCsc, besides the annotations that it has.
+    ///
+    /// Message passing is allowed in RVWMO and forbidden in RVTSO, store buffering is allowed in both:
+    ///
+    /// ```
+    /// use cogthunder::{Table, Witnesses};
+    ///
+    /// const X: u8 = 0;
+    /// const Y: u8 = 1;
+    /// let mut passing = Table::new(2, 2);
+    /// passing.store(0, X, 1);
+    /// passing.store(0, Y, 1);
+    /// passing.load(1, Y, 1);
+    /// passing.load(1, X, 0);
+    /// assert!(Witnesses::of(&passing.block()?)?.next().is_some());
+    /// passing.tso();
+    /// assert!(Witnesses::of(&passing.block()?)?.next().is_none());
+    ///
+    /// let mut buffering = Table::new(2, 2);
+    /// buffering.tso();
+    /// buffering.store(0, X, 1);
+    /// buffering.load(0, Y, 0);
+    /// buffering.store(1, Y, 1);
+    /// buffering.load(1, X, 0);
+    /// assert!(Witnesses::of(&buffering.block()?)?.next().is_some());
+    /// # Ok::<(), cogthunder::Refusal>(())
+    /// ```
+    pub fn tso(&mut self) {
+        self.model = RVTSO;
     }
 
     /// Adds a load.
@@ -398,6 +435,19 @@ mod tests {
     }
 
     #[test]
+    fn a_table_of_either_model_is_given_back() {
+        for test in [table(), thirty()] {
+            let mut tso = test.clone();
+            tso.tso();
+            assert_eq!((test.model, tso.model), (0, 1));
+            for table in [test, tso] {
+                let bytes = table.test().expect("the table is good");
+                assert_eq!(Table::of_test(&bytes), Ok(table));
+            }
+        }
+    }
+
+    #[test]
     fn what_is_said_before_an_event_is_added_stays() {
         let mut early = table();
         early.data_dependency(8, 7);
@@ -418,6 +468,8 @@ mod tests {
         assert_eq!(refused(|t| t.harts = 5), (5, None));
         assert_eq!(refused(|t| t.locations = 0), (5, None));
         assert_eq!(refused(|t| t.count = 200), (5, None));
+        assert_eq!(refused(|t| t.model = 2), (5, None));
+        assert_eq!(refused(|t| t.model = 255), (5, None));
         assert_eq!(refused(|t| t.load(9, X, 0)), (7, Some(7)));
         assert_eq!(refused(|t| t.load(0, 2, 0)), (7, Some(7)));
         assert_eq!(refused(|t| t.events[3].kind = 77), (7, Some(3)));
@@ -509,6 +561,7 @@ mod tests {
     #[test]
     fn mistakes_among_thirty_events_are_refused_as_among_few() {
         assert_eq!(refused_in_two(|t| t.load(0, X, 0)), (5, None));
+        assert_eq!(refused_in_two(|t| t.model = 2), (5, None));
         assert_eq!(refused_in_two(|t| t.count = 29), (6, None));
         assert_eq!(refused_in_two(|t| t.slot(30).kind = LOAD), (6, None));
         assert_eq!(refused_in_two(|t| t.slot(31).operand = 1), (6, None));

@@ -48,6 +48,7 @@ struct Sets {
     readers: u32,
     writers: u32,
     acquires: u32,
+    releases: u32,
     rcscs: u32,
     harts: [u32; HARTS],
     locations: [u32; LOCATIONS],
@@ -79,8 +80,10 @@ impl Sets {
         for (e, x) in t.events[..t.count].iter().enumerate() {
             sets.readers |= bit_if(x.reads(), e);
             sets.writers |= bit_if(x.writes(), e);
-            sets.acquires |= bit_if(x.is_memory() && x.flags & ACQUIRE != 0, e);
-            sets.rcscs |= bit_if(x.is_memory() && x.flags & RCSC != 0, e);
+            let annotations = x.annotations(t.model);
+            sets.acquires |= bit_if(annotations & ACQUIRE != 0, e);
+            sets.releases |= bit_if(annotations & RELEASE != 0, e);
+            sets.rcscs |= bit_if(annotations & RCSC != 0, e);
             sets.harts[usize::from(x.hart)] |= 1 << e;
             sets.locations[usize::from(x.location)] |= 1 << e;
         }
@@ -141,8 +144,8 @@ impl Passed {
             & (always
                 | mask_if(x.reads(), self.before_reads)
                 | mask_if(x.writes(), if_writes)
-                | mask_if(x.flags & RELEASE != 0, earlier)
-                | mask_if(x.flags & RCSC != 0, sets.rcscs)
+                | mask_if(sets.releases >> e & 1 == 1, earlier)
+                | mask_if(sets.rcscs >> e & 1 == 1, sets.rcscs)
                 | self.pair(x))
     }
 

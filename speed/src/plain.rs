@@ -210,7 +210,7 @@ mod tests {
     use oracle::generate::prng::Prng;
     use oracle::generate::random::random_table;
     use oracle::search::{Answer as Other, Engine, MAX_ALLOWANCE};
-    use oracle::table::Table;
+    use oracle::table::{Model, Table};
 
     const TABLES: usize = 20_000;
     const FEW_EVENTS: usize = 7;
@@ -219,7 +219,7 @@ mod tests {
     fn small_table(prng: &mut Prng) -> Table {
         let (harts, locations) = (1 + prng.below(4), 1 + prng.below(3));
         let events = 1 + prng.below(FEW_EVENTS);
-        let mut table = random_table(prng, harts, locations, events);
+        let mut table = random_table(prng, harts, locations, events).in_model(*prng.pick(&Model::ALL));
         if !prng.one_in(3) {
             if let Some(order) = lawful_order(prng, &table) {
                 state_outcome(&mut table, &order);

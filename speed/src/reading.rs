@@ -3,7 +3,7 @@
 use crate::facts::{ACQUIRE, RELEASE};
 use crate::table::*;
 
-const HEADER_ZEROS: std::ops::Range<usize> = 9..16;
+const HEADER_ZEROS: std::ops::Range<usize> = 10..16;
 const TAIL_ZEROS: std::ops::Range<usize> = 304..508;
 const ALL_FLAGS: u8 = 15;
 
@@ -103,6 +103,7 @@ fn is_in_range(block: &[u8; BLOCK], events: usize) -> bool {
         && within(LOCATIONS_AT, LOCATIONS)
         && within(EVENTS_AT, events)
         && u32::from(block[STATED_AT]) >> block[LOCATIONS_AT] == 0
+        && block[MODEL_AT] <= RVTSO
 }
 
 /// All bytes are looked at, which is faster than to stop at the first that isn't zero.
@@ -188,6 +189,7 @@ fn decode_header<M: Mask, const N: usize>(block: &[u8]) -> Table<M, N> {
         count: block[EVENTS_AT].into(),
         locations: block[LOCATIONS_AT].into(),
         stated: block[STATED_AT],
+        model: block[MODEL_AT],
         initial: std::array::from_fn(|x| number(block, INITIAL_AT + 2 * x)),
         finals: std::array::from_fn(|x| number(block, FINALS_AT + 2 * x)),
         ..Table::default()
@@ -294,6 +296,7 @@ fn pairing_broken<M>(events: &[Event<M>]) -> Option<usize> {
 #[cfg(test)]
 pub fn assert_same<M: Mask + Into<u32>, const N: usize>(t: &Table<M, N>, other: &oracle::table::Table) {
     assert_eq!((t.count, t.locations, t.stated), (other.events.len(), other.locations, other.stated));
+    assert_eq!(t.model, other.model as u8);
     assert_eq!((t.initial, t.finals), (other.initial, other.finals));
     for (e, f) in t.events.iter().zip(&other.events) {
         let bytes = (f.kind as u8, f.hart as u8, f.location as u8, f.flags);

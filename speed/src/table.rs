@@ -18,6 +18,7 @@ pub const HARTS_AT: usize = 5;
 pub const LOCATIONS_AT: usize = 6;
 pub const EVENTS_AT: usize = 7;
 pub const STATED_AT: usize = 8;
+pub const MODEL_AT: usize = 9;
 pub const INITIAL_AT: usize = 16;
 pub const RECORDS_AT: usize = 32;
 pub const RECORD: usize = 16;
@@ -38,6 +39,9 @@ pub const LR: u8 = 4;
 pub const SC: u8 = 5;
 pub const FENCE: u8 = 6;
 pub const FENCE_TSO: u8 = 7;
+
+/// The model beside RVWMO, which is 0.
+pub const RVTSO: u8 = 1;
 
 /// The operations of AMOs.
 pub const NO_OPERATION: u8 = 0;
@@ -86,6 +90,7 @@ pub struct Table<M = u16, const N: usize = EVENTS> {
     pub count: usize,
     pub locations: usize,
     pub stated: u8,
+    pub model: u8,
     pub initial: [u16; LOCATIONS],
     pub finals: [u16; LOCATIONS],
     pub events: [Event<M>; N],
@@ -97,7 +102,8 @@ pub type TableTwo = Table<u32, EVENTS_TWO>;
 impl<M: Mask, const N: usize> Default for Table<M, N> {
     fn default() -> Table<M, N> {
         let values = [0; LOCATIONS];
-        Table { count: 0, locations: 0, stated: 0, initial: values, finals: values, events: [Event::default(); N] }
+        let events = [Event::default(); N];
+        Table { count: 0, locations: 0, stated: 0, model: 0, initial: values, finals: values, events }
     }
 }
 
@@ -112,6 +118,17 @@ impl<M> Event<M> {
 
     pub fn is_memory(&self) -> bool {
         self.reads() || self.writes()
+    }
+
+    /// The annotations that the rules read: those carried, and those that the model adds.
+    pub fn annotations(&self, model: u8) -> u8 {
+        match (model, self.kind) {
+            (_, FENCE | FENCE_TSO) => 0,
+            (RVTSO, LOAD | LR) => self.flags | 0b0001,
+            (RVTSO, STORE | SC) => self.flags | 0b0100,
+            (RVTSO, _) => self.flags | 0b1010,
+            _ => self.flags,
+        }
     }
 }
 
@@ -157,6 +174,7 @@ impl<M, const N: usize> Table<M, N> {
         block[LOCATIONS_AT] = self.locations as u8;
         block[EVENTS_AT] = self.count as u8;
         block[STATED_AT] = self.stated;
+        block[MODEL_AT] = self.model;
         for x in 0..LOCATIONS {
             put(block, INITIAL_AT + 2 * x, self.initial[x]);
             put(block, FINALS_AT + 2 * x, self.finals[x]);

@@ -7,6 +7,7 @@ use Rattle.lists.specs.Reply.{Reply, refused, answered}
 use Rattle.refusals.specs.Lines.{Refused, accepted, byLine, byRecord, byPlace}
 use Rattle.model.specs.Verdict.{Verdict, allowed, brokenPpo, brokenLoadValue, brokenAtomicity, brokenValueRead, brokenFinalValue}
 use Rattle.prefixes.specs.Answer.{Answer, found, noneLeft, spent}
+use Rattle.steps.specs.Replies.{StepAnswer}
 
 unfoldable pub word : (kind a b d visited : ℕ) → ℕ
 word kind a b d visited = kind + 256 * a + 65536 * b + 16777216 * d + 4294967296 * visited
@@ -48,6 +49,11 @@ judgedWord (answered v) = verdictWord v
 abbrev pub ruledWord : Reply Refused (List ℕ) → ℕ
 ruledWord (refused r) = refusalWord r
 ruledWord (answered rules) = word 0 0 0 0 (rulesMask rules)
+
+-- 10: a step was accepted, with its event and that event's entry
+abbrev pub stepWord : Reply Refused StepAnswer → ℕ
+stepWord (refused r) = refusalWord r
+stepWord (answered a) = word 10 (a .event) (a .entry) 0 0
 
 -- 7: found; 8: none left; 9: spent; with the number of entries that were written
 abbrev pub answerWord : Answer → ℕ

@@ -3,6 +3,7 @@ use bench::TextReply;
 use pair_rules::PairRules;
 use refusals::Refusal;
 use search::Reply;
+use steps::StepReply;
 use text::TextRefusal;
 use verdict::Axiom;
 use verdict::Verdict;
@@ -13,7 +14,8 @@ ghost use Rattle.refusals.specs.Refusals.{refusalOf};
 ghost use Rattle.rule_sets.specs.RuleMask.{rulesIn};
 ghost use Rattle.verdict.specs.Judged.{axiomOf, judgedOf};
 ghost use Rattle.pair_rules.specs.PairRules.{ruledOf};
-ghost use Rattle.answer_word.specs.Words.{word, refusalWord, rulesMask, lowestOf, verdictWord, judgedWord, ruledWord};
+ghost use Rattle.steps.specs.Replies.{stepOf};
+ghost use Rattle.answer_word.specs.Words.{word, refusalWord, rulesMask, lowestOf, verdictWord, judgedWord, ruledWord, stepWord};
 ghost use Rattle.text.specs.TextRefusals.{textRefusalOf};
 ghost use Rattle.answer_word.specs.Given.{endingWord, givenWord, textGivenWord, EndingFits, GivenFits, PlaceFits, TextGivenFits};
 
@@ -40,6 +42,8 @@ impl Case {
     const NONE_LEFT: u8 = 8;
 
     const SPENT: u8 = 9;
+
+    const STEP_TAKEN: u8 = 10;
 }
 
 // The weights of bytes 1, 2 and 3 of a word, and that of its upper half.
@@ -81,7 +85,13 @@ pub fn text_refusal_word(refusal: TextRefusal) -> u64
     ensures { λ r. ⌜ r ≡ refusalWord (textRefusalOf refusal) ⌝ }
 {
     match refusal {
-        TextRefusal::At { number, place } => word(Case::REFUSED, number, NO_RECORD, 0, place as u64),
+        TextRefusal::At { number, place } => word(
+            Case::REFUSED,
+            number,
+            NO_RECORD,
+            0,
+            place as u64,
+        ),
         TextRefusal::Table(line) => refusal_word(line),
     }
 }
@@ -137,6 +147,15 @@ pub fn pair_word(pair: PairRules) -> u64
     }
 }
 
+pub fn step_word(reply: StepReply) -> u64
+    ensures { λ r. ⌜ r ≡ stepWord (stepOf reply) ⌝ }
+{
+    match reply {
+        StepReply::Refused(refusal) => refusal_word(refusal),
+        StepReply::Taken { event, entry } => word(Case::STEP_TAKEN, event, entry, 0, 0),
+    }
+}
+
 fn ending_word(ending: Ending) -> u64
     requires { ⌜ EndingFits ending ⌝ }
     ensures { λ r. ⌜ r ≡ endingWord ending ⌝ }
@@ -163,7 +182,13 @@ pub fn text_reply_word(reply: TextReply) -> u64
     ensures { λ r. ⌜ r ≡ textGivenWord reply ⌝ }
 {
     match reply {
-        TextReply::Illegal { number, place } => word(Case::REFUSED, number, NO_RECORD, 0, place as u64),
+        TextReply::Illegal { number, place } => word(
+            Case::REFUSED,
+            number,
+            NO_RECORD,
+            0,
+            place as u64,
+        ),
         TextReply::Searched(searched) => reply_word(searched),
     }
 }

@@ -52,7 +52,7 @@ fn lowest_intruder(t: Table, rf: &[u8], gmo: &[u8], l: EventNo, s: EventNo) -> E
 }
 
 // Atomicity breaks for l and s.
-fn breaks_pair(t: Table, rf: &[u8], gmo: &[u8], l: EventNo, s: EventNo) -> bool
+pub fn breaks_pair(t: Table, rf: &[u8], gmo: &[u8], l: EventNo, s: EventNo) -> bool
     requires { ⌜ (l .0 < t .count) × (s .0 < t .count) × (t .count ≤ capacity) × (length (now rf) ≡ t .count) ⌝ }
     ensures { λ r. ⌜ r ≡ breaksPair t (now (rf .entry)) (now (gmo .entry)) (l .0) (s .0) ⌝ }
 {

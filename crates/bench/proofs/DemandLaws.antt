@@ -19,13 +19,17 @@ use Rattle.model.specs.Returns.{returns}
 use Rattle.model.specs.Verdict.{Verdict, verdict}
 use Rattle.model.specs.Says.{Says}
 use Rattle.model.proofs.SaysLaws.{says, allowed-exactly}
+use Rattle.machine.proofs.MachineLaws.{machine-right}
+use Rattle.machine.proofs.BufferLaws.{buffers-right}
 use Rattle.candidate.specs.Buffers.{written}
 use Rattle.search.specs.Replies.{bufferAfter}
 use Rattle.text.specs.Texts.{textLines, textRefusal}
 use Rattle.bench.specs.Candidate.{verdictLines, verdictOf, returnsLines, returnsRefusal, returnsBuffer}
 use Rattle.bench.specs.PairRules.{rulesLines, rulesOf}
+use Rattle.bench.specs.Steps.{machineLines, machineReply}
 use Rattle.bench.specs.Search.{ofBlock, ofBlockPruned, refusalTo, replyTo, bufferLeft, searchLines, prunedLines, ofText, textSearchLines}
-use Rattle.bench.specs.Demands.{refusalIn, Unaltered, Demand1, Demand2, Demands}
+use Rattle.bench.specs.Demands.{refusalIn, Unaltered, Demand1, Demand2, Demands, StepMachine}
+use Rattle.bench.proofs.EntryLaws.{tso-read}
 use Rattle.bench.proofs.ReplyLaws.{block-sound, pruned-sound, text-sound}
 use Rattle.bench.proofs.Demand3Laws.{demand3}
 
@@ -48,13 +52,14 @@ exactly-of : (n : ℕ) (ls : List Line) (r : Refused) → r ≡ firstLine n ls �
 exactly-of n ls r e = subst (Exactly n ls) (sym e) (first-exactly n ls)
 
 demand1 : (s : List ℕ) (t : Table) (rf gmo start out : List ℕ) (a b allowance k : ℕ) → Demand1 s t rf gmo start out a b allowance k
-unfolding readRefusal textRefusal writeRefusal writtenBlock verdictOf rulesOf returnsRefusal returnsBuffer refusalTo replyTo bufferLeft
+unfolding readRefusal textRefusal writeRefusal writtenBlock verdictOf rulesOf machineReply returnsRefusal returnsBuffer refusalTo replyTo bufferLeft
 demand1 s t rf gmo start out a b allowance k = record {
   read = first-exactly _ (readingLines s);
   write = first-exactly _ (writingLines t out);
   write-unaltered = unless-refused (writeRefusal t out) (encoded t) out;
   verdict = exactly-of _ (verdictLines s rf gmo) _ (refusal-in _ _);
   rules = exactly-of _ (rulesLines s rf) _ (refusal-in _ _);
+  step = λ bs. exactly-of _ (machineLines s bs b) _ (refusal-in _ _);
   returns = first-exactly _ (returnsLines s gmo out);
   returns-unaltered = unless-refused (returnsRefusal s gmo out) (written (returns (decoded s) gmo) out) out;
   search = exactly-of _ (searchLines s start out allowance) _ (refusal-in _ _);
@@ -88,6 +93,13 @@ demand2 s rf gmo = record {
 }
 
 pub demands : Demands
-demands =
-    (demand1, demand2, (λ s. demand3 (ofBlock s) (block-sound s)), (λ s. demand3 (ofBlockPruned s) (pruned-sound s)),
-    λ s. demand3 (ofText s) (text-sound s))
+demands = (
+  demand1,
+  demand2,
+  (λ s. demand3 (ofBlock s) (block-sound s)),
+  (λ s. demand3 (ofBlockPruned s) (pruned-sound s)),
+  λ s. demand3 (ofText s) (text-sound s),
+)
+
+pub step-machine : StepMachine
+step-machine s ok tso = (machine-right (tso-read s ok tso), buffers-right (tso-read s ok tso))

@@ -29,6 +29,7 @@ use Rattle.model.specs.Witness.{statedOutcome}
 use Rattle.placing.specs.GoodTable.{GoodTable}
 use Rattle.placing.proofs.GoodTableLaws.{good-table}
 use Rattle.candidate.specs.Buffers.{written}
+use Rattle.machine.proofs.MachineLaws.{tso-table}
 use Rattle.model.specs.Prefixes.{clean}
 use Rattle.model.specs.Following.{meets}
 use Rattle.text.specs.Texts.{linesAs, textLines, textRefusal, tableOfText, textTable, conditionOf}
@@ -42,8 +43,10 @@ use Rattle.search.specs.Replies.{replyOf, lengthOf, tableReply, bufferAfter, pr
 use Rattle.answers.specs.Candidate.{candidateLines, orderLines}
 use Rattle.pair_rules.specs.PairRules.{returnedLines, rulesBetween}
 use Rattle.pair_rules.proofs.PairLaws.{RuledAs}
+use Rattle.steps.specs.Replies.{StepAnswer, IfTso, answerTo, stepLines, stepReply}
 use Rattle.bench.specs.Candidate.{verdictLines, verdictOf, returnsLines, returnsRefusal, returnsBuffer}
 use Rattle.bench.specs.PairRules.{rulesLines, rulesOf}
+use Rattle.bench.specs.Steps.{machineLines, machineReply}
 use Rattle.bench.specs.Search.{Searched, ofBlockBy, ofText, linesTo, refusalTo, replyTo, bufferLeft, textReply, textBuffer}
 
 module _ (s : List ℕ) (ok : readRefusal s ≡ accepted) where
@@ -58,6 +61,10 @@ module _ (s : List ℕ) (ok : readRefusal s ≡ accepted) where
 
   pub small-read : Small (decoded s)
   small-read = good-read .small
+
+  -- and what the machine uses, if it is of model 1
+  pub tso-read : IfTso (decoded s)
+  tso-read = tso-table _ _ _ (decoded s) (block-asks-range (decoded s)) (most-fits (editionOf s)) (passed-table s ok)
 
 -- The verdict entry.
 module _ (s rf gmo : List ℕ) where
@@ -199,3 +206,18 @@ module _ (s rf : List ℕ) (a b : ℕ) where
   rules-ruled t r ok e h =
       subst (λ (x : Table). RuledAs x rf a b r) e h
       ∙ entry-own (decoded s .count) (readingLines s) (returnedLines (decoded s) rf) (rulesBetween (decoded s) rf a b) ok
+
+-- The entry for a step of the machine.
+module _ (s bs : List ℕ) (b : ℕ) where
+  -- reading refuses
+  pub step-declined : (q : Refused) → q ≡ readRefusal s → q ≢ accepted → refused q ≡ machineReply s bs b
+  unfolding machineReply machineLines readRefusal
+  step-declined = entry-declined (decoded s .count) (readingLines s) (stepLines (decoded s) bs b) (answerTo (decoded s) bs b)
+
+  -- it doesn't: the machine decides
+  pub step-answered : (t : Table) (r : Reply Refused StepAnswer) → readRefusal s ≡ accepted → t ≡ decoded s → r ≡ stepReply t bs b →
+      r ≡ machineReply s bs b
+  unfolding machineReply machineLines readRefusal stepReply
+  step-answered t r ok e h =
+      subst (λ (x : Table). r ≡ stepReply x bs b) e h
+      ∙ entry-own (decoded s .count) (readingLines s) (stepLines (decoded s) bs b) (answerTo (decoded s) bs b) ok

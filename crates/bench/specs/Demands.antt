@@ -9,6 +9,7 @@ use Rattle.lists.specs.Lists.{_∈_, keep}
 use Rattle.lists.specs.Reply.{Reply, refused, answered}
 use Rattle.lists.specs.Ascending.{less, Ascending}
 use Rattle.table.specs.declared.Table.{Table}
+use Rattle.table.specs.Annotations.{rvtso}
 use Rattle.decode.specs.Decoded.{decoded}
 use Rattle.refusals.specs.Lines.{Refused, accepted, firstLine, unless}
 use Rattle.refusals.specs.Exactly.{Exactly}
@@ -22,11 +23,13 @@ use Rattle.model.specs.Verdict.{Verdict, allowed}
 use Rattle.model.specs.Says.{AllHold, Says}
 use Rattle.model.specs.Witness.{witnessFor}
 use Rattle.model.specs.Prefixes.{prefixesBy}
+use Rattle.machine.specs.Statements.{MachineRight, BuffersRight}
 use Rattle.text.specs.Texts.{tableOfText, textLines, textRefusal}
 use Rattle.search.specs.declared.Reply as code
 use Rattle.search.specs.Replies.{replyOf, lengthOf, prefixLength}
 use Rattle.bench.specs.Candidate.{verdictLines, verdictOf, returnsLines, returnsRefusal, returnsBuffer}
 use Rattle.bench.specs.PairRules.{rulesLines, rulesOf}
+use Rattle.bench.specs.Steps.{machineLines, machineReply}
 use Rattle.bench.specs.Search.{Searched, ofBlock, ofBlockPruned, replyTo, bufferLeft, searchLines, searchReply, searchBuffer}
 use Rattle.bench.specs.Search.{prunedLines, prunedReply, prunedBuffer, ofText, textSearchLines, textReply, textBuffer}
 
@@ -54,6 +57,8 @@ module _ (s : List ℕ) (t : Table) (rf gmo start out : List ℕ) (a b allowance
     pub verdict : Exactly (decoded s .count) (verdictLines s rf gmo) (refusalIn (verdictOf s rf gmo))
     -- the rules of a pair: lines 1 to 12 and 14
     pub rules : Exactly (decoded s .count) (rulesLines s rf) (refusalIn (rulesOf s rf a b))
+    -- a step of the machine: lines 1 to 11, 21 and 24
+    pub step : (bs : List ℕ) → Exactly (decoded s .count) (machineLines s bs b) (refusalIn (machineReply s bs b))
     -- the returned list of an order: lines 1 to 13 and 16
     pub returns : Exactly (decoded s .count) (returnsLines s gmo out) (returnsRefusal s gmo out)
     pub returns-unaltered : Unaltered (returnsRefusal s gmo out) out (returnsBuffer s gmo out)
@@ -184,3 +189,8 @@ abbrev pub BothEngines : Type 0
 BothEngines =
     (s : List ℕ) (cs ds : List Call) → Walk (ofBlock s) [] cs → Walk (ofBlockPruned s) [] ds →
     isFinished cs ≡ true → isFinished ds ≡ true → handedOut cs ≡ handedOut ds
+
+-- "The order of drains, loads, LRs and AMOs in complete runs covers exactly the lawful orders of model 1, with the same returns."
+abbrev pub StepMachine : Type 0
+StepMachine =
+    (s : List ℕ) → readRefusal s ≡ accepted → decoded s .model ≡ rvtso → MachineRight (decoded s) × BuffersRight (decoded s)

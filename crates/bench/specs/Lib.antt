@@ -2,4 +2,5 @@ pub mod Candidate
 pub mod Search
 pub mod TextReplies
 pub mod PairRules
+pub mod Steps
 pub mod Demands

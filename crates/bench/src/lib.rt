@@ -3,6 +3,7 @@ use block::Reading;
 use pair_rules::PairRules;
 use refusals::Refusal;
 use search::Reply;
+use steps::StepReply;
 use table::Table;
 use text::TextRefusal;
 use verdict::Verdict;
@@ -17,6 +18,8 @@ ghost use Rattle.pair_rules.specs.PairRules.{ruledOf};
 ghost use Rattle.search.specs.Replies.{replyOf, lengthOf, prefixLength};
 ghost use Rattle.bench.specs.Candidate.{verdictOf, returnsRefusal, returnsBuffer};
 ghost use Rattle.bench.specs.PairRules.{rulesOf};
+ghost use Rattle.steps.specs.Replies.{stepOf};
+ghost use Rattle.bench.specs.Steps.{machineReply};
 ghost use Rattle.text.specs.Texts.{textRefusal, textTable};
 ghost use Rattle.text.specs.TextRefusals.{textRefusalOf};
 ghost use Rattle.bench.specs.Search.{searchReply, searchBuffer, prunedReply, prunedBuffer, textReply, textBuffer};
@@ -97,6 +100,20 @@ pub fn rules(bytes: &[u8], returned: &[u8], a: u64, b: u64) -> PairRules
         Refusal::None => pair_rules::pair(t, returned, a, b),
         Refusal::Line(n) => PairRules::Refused(Refusal::Line(n)),
         Refusal::Record(n, k) => PairRules::Refused(Refusal::Record(n, k)),
+    }
+}
+
+// One step of the machine for RVTSO behind a list of steps, for any number as the step.
+pub fn step(bytes: &[u8], steps: &[u8], b: u64) -> StepReply
+    ensures { λ r. ⌜ stepOf r ≡ machineReply (now (bytes .entry)) (now (steps .entry)) b ⌝ }
+{
+    let reading = block::read(bytes);
+    let refusal = reading.refusal;
+    let t = reading.table;
+    match refusal {
+        Refusal::None => steps::answer(t, steps, b),
+        Refusal::Line(n) => StepReply::Refused(Refusal::Line(n)),
+        Refusal::Record(n, k) => StepReply::Refused(Refusal::Record(n, k)),
     }
 }
 

@@ -73,6 +73,7 @@ noTable =
       locations = 0;
       count = 0;
       stated = 0;
+      model = 0;
       initial = replicate maxLocations 0;
       events = replicate capacity noEvent;
       finals = replicate maxLocations 0;

@@ -27,6 +27,7 @@ pub fn no_table() -> Table
         locations: 0,
         count: 0,
         stated: 0,
+        model: 0,
         initial: [0; table::LOCATIONS],
         events: [table::no_event(); table::CAPACITY],
         finals: [0; table::LOCATIONS],

@@ -9,9 +9,10 @@ ghost use Rattle.suite_part.specs.Part.{blockCount};
 ghost use Rattle.suite_walk.specs.Tests.{testLengthAt, nextBlock};
 ghost use Rattle.bench.specs.Candidate.{verdictOf, returnsRefusal, returnsBuffer};
 ghost use Rattle.bench.specs.PairRules.{rulesOf};
+ghost use Rattle.bench.specs.Steps.{machineReply};
 ghost use Rattle.text.specs.Texts.{textRefusal, textTable};
 ghost use Rattle.bench.specs.Search.{searchReply, searchBuffer, prunedReply, prunedBuffer, textReply, textBuffer};
-ghost use Rattle.answer_word.specs.Words.{refusalWord, judgedWord, ruledWord, replyWord};
+ghost use Rattle.answer_word.specs.Words.{refusalWord, judgedWord, ruledWord, stepWord, replyWord};
 ghost use Rattle.capi.specs.Parts.{partRefusal, partOffset, partLength};
 
 // Reading a block.
@@ -56,6 +57,14 @@ pub extern "C" fn ct_rules(block: &[u8], returned: &[u8], a: u64, b: u64) -> u64
     ensures { λ r. ⌜ r ≡ ruledWord (rulesOf (now (block .entry)) (now (returned .entry)) a b) ⌝ }
 {
     answer_word::pair_word(bench::rules(block, returned, a, b))
+}
+
+// One step of the machine for RVTSO behind a list of steps.
+#[no_mangle]
+pub extern "C" fn ct_step(block: &[u8], steps: &[u8], step: u64) -> u64
+    ensures { λ r. ⌜ r ≡ stepWord (machineReply (now (block .entry)) (now (steps .entry)) step) ⌝ }
+{
+    answer_word::step_word(bench::step(block, steps, step))
 }
 
 // Writes the returned list that an order determines.

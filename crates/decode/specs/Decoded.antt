@@ -9,7 +9,7 @@ use Rattle.table.specs.declared.LocationNo.{LocationNo}
 use Rattle.table.specs.declared.Event.{Event}
 use Rattle.table.specs.declared.Table.{Table}
 use Rattle.table.specs.Events.{noEvent, capacity}
-use Rattle.decode.specs.Layout.{byteAt, wordAt, longAt, hartsAt, locationsAt, eventsAt, statedAt, initialAt, recordAt, wideRecordAt, finalAt, editionOf}
+use Rattle.decode.specs.Layout.{byteAt, wordAt, longAt, hartsAt, locationsAt, eventsAt, statedAt, modelAt, initialAt, recordAt, wideRecordAt, finalAt, editionOf}
 
 -- "Record: 0 kind, 1 hart, 2 location, 3 flags, 4..5 address mask, 6..7 data mask, 8..9 control mask, 10..11 value read,
 -- 12..13 value written", "bytes 14 and 15 become an operation and an operand"
@@ -74,6 +74,7 @@ headed s events =
       locations = byteAt s locationsAt;
       count = byteAt s eventsAt;
       stated = byteAt s statedAt;
+      model = byteAt s modelAt;
       initial = upTo maxLocations (initialOf s);
       events = events;
       finals = upTo maxLocations (finalOf s);

@@ -32,6 +32,10 @@ eventsAt = 7
 abbrev pub statedAt : ℕ
 statedAt = 8
 
+-- "Header byte 9 becomes the model"
+abbrev pub modelAt : ℕ
+modelAt = 9
+
 -- "16..31: initial values, two bytes a location"
 abbrev pub initialAt : ℕ → ℕ
 initialAt x = 16 + 2 * x

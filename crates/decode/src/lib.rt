@@ -30,6 +30,8 @@ impl At {
 
     pub const STATED: usize = 8;
 
+    pub const MODEL: usize = 9;
+
     pub const INITIAL: usize = 16;
 
     pub const RECORDS: usize = 32;
@@ -176,6 +178,7 @@ pub fn headed(s: &[u8], events: [Event; CAPACITY]) -> Table
         locations: byte_at(s, At::LOCATIONS),
         count: byte_at(s, At::EVENTS),
         stated: byte_at(s, At::STATED),
+        model: byte_at(s, At::MODEL),
         initial: values(s, At::INITIAL),
         events,
         finals: values(s, At::FINALS),

@@ -63,7 +63,7 @@ unfolding front
 begun-front t l m e f =
     f
     ∙ begun-put (header t ++ headerZeros) (initialBytes t) l 16
-    (e ∙ begun-put [] (header t) (zeros blockLength) 0 begun-none refl (omega arith) ∙ begun-zeros (header t) 7 (omega arith))
+    (e ∙ begun-put [] (header t) (zeros blockLength) 0 begun-none refl (omega arith) ∙ begun-zeros (header t) 6 (omega arith))
     refl (omega (arith, length-values (t .initial)))
 
 -- one more record is set

@@ -37,9 +37,13 @@ countBytes t = editionNumber one ∷ t .harts ∷ t .locations ∷ t .count ∷ 
 abbrev pub statedBytes : Table → List ℕ
 statedBytes t = t .stated ∷ []
 
--- "9..15 | zero"
+-- "Header byte 9 becomes the model"
+abbrev pub modelBytes : Table → List ℕ
+modelBytes t = t .model ∷ []
+
+-- "9..15 | zero", of which the model is the first
 abbrev pub headerZeros : List ℕ
-headerZeros = zeros 7
+headerZeros = zeros 6
 
 -- "16..31 | initial values, two bytes a location"
 abbrev pub initialBytes : Table → List ℕ
@@ -60,7 +64,8 @@ tailZeros = zeros 204
 -- bytes 0..507, which the check covers
 unfoldable pub coveredBytes : Table → List ℕ
 coveredBytes t =
-    markerBytes ++ countBytes t ++ statedBytes t ++ headerZeros ++ initialBytes t ++ recordsBytes t ++ finalBytes t ++ tailZeros
+    markerBytes ++ countBytes t ++ statedBytes t ++ modelBytes t ++ headerZeros ++ initialBytes t ++ recordsBytes t ++ finalBytes t
+    ++ tailZeros
 
 -- "508..511 | the sum over i = 0..507 of (i+1) times byte i"
 unfoldable pub checkBytes : Table → List ℕ

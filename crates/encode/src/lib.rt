@@ -47,6 +47,7 @@ fn put_header(block: &mut [u8], t: Table)
     put_marker(block);
     put_counts(block, t);
     block[At::STATED] = t.stated;
+    block[At::MODEL] = t.model;
 }
 
 // Sets one value for each location, from `at` on.

@@ -43,9 +43,10 @@ pub fn of_table(t: Table) -> Sets
         let e = t.events[k as usize];
         readers = readers | one_if(table::reads(e), k);
         writers = writers | one_if(table::writes(e), k);
-        acquires = acquires | one_if(synchronization::acquires(e), k);
-        releases = releases | one_if(synchronization::releases(e), k);
-        rcscs = rcscs | one_if(synchronization::rcsc(e), k);
+        let flags = synchronization::annotations(t.model, e);
+        acquires = acquires | one_if(synchronization::acquires(flags), k);
+        releases = releases | one_if(synchronization::releases(flags), k);
+        rcscs = rcscs | one_if(synchronization::rcsc(flags), k);
         reserving = reserving | one_if((e.kind == Kind::LR) | (e.kind == Kind::SC), k);
         let bit = one(k as u32);
         let h = e.hart as usize;

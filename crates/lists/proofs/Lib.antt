@@ -13,3 +13,4 @@ pub mod PaddedLaws
 pub mod LastLaws
 pub mod LatestLaws
 pub mod AscendingLaws
+pub mod QueueLaws

@@ -5,12 +5,12 @@ use native.Mathlib.Omega.{arith}
 use mathlib.Core.Path.{_≡_, refl, sym, ap, ap₂, _∙_}
 use mathlib.Core.Bool.{Bool, true, false, _&&_, _||_, and-false, or-true, or-assoc, false≢true}
 use mathlib.Core.List.{List, [], _∷_, _++_, List·Memᴰ·head, List·Memᴰ·tail, List·Memᴰ·cases-cons, List·Memᴰ·not-nil}
-use mathlib.Core.Logic.{⊎-elim}
+use mathlib.Core.Logic.{_⊎_, inl, inr, ⊎-elim}
 use lib.Dec.{eqb, ltb}
 use borrow.Author.Tests.{ltb-true, lt-ltb, eqb-true, eq-eqb}
 use Rattle.lists.specs.Below.{upFrom, below}
 use Rattle.lists.specs.Lists.{_∈_, all, has, kept, keep}
-use Rattle.lists.proofs.BoolLaws.{bool-ext}
+use Rattle.lists.proofs.BoolLaws.{bool-ext, or-cases}
 use Rattle.lists.proofs.ListLaws.{all-has}
 
 -- a number in the rest of a list is in the list
@@ -41,6 +41,15 @@ has-append x (y ∷ l) m = ap (λ (b : Bool). eqb x y || b) (has-append x l m) �
 -- a number of the first list is in the two lists joined
 pub has-left : (x : ℕ) (l m : List ℕ) → has x l ≡ true → has x (l ++ m) ≡ true
 has-left x l m h = has-append x l m ∙ ap (λ (b : Bool). b || has x m) h
+
+-- a number of a list with one more entry in front, or behind, is that entry or was there
+pub has-first : (x e : ℕ) (l : List ℕ) → has x (e ∷ l) ≡ true → (x ≡ e) ⊎ (has x l ≡ true)
+has-first x e l h = ⊎-elim (λ q. inl (eqb-true x e q)) inr (or-cases (eqb x e) (has x l) h)
+
+pub has-last : (x e : ℕ) (l : List ℕ) → has x (l ++ (e ∷ [])) ≡ true → (has x l ≡ true) ⊎ (x ≡ e)
+has-last x e l h =
+    ⊎-elim inl (λ q. ⊎-elim inr (λ r. absurd (false≢true r)) (has-first x e [] q))
+    (or-cases (has x l) (has x (e ∷ [])) (sym (has-append x l (e ∷ [])) ∙ h))
 
 -- a number is kept if it is there and passes
 pub has-kept : (f : ℕ → Bool) (l : List ℕ) (k : ℕ) → has k (keep f l) ≡ (has k l && f k)

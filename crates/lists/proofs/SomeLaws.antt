@@ -66,6 +66,17 @@ is-lowest n f h =
     let l : lowest n f < n = ltb-true _ _ h in
     (l, lowest-hit n f l, λ j k. lowest-least n f j k)
 
+-- and no other number is
+pub lowest-is : (n : ℕ) (f : ℕ → Bool) (k : ℕ) → IsLowest n f k → lowest n f ≡ k
+lowest-is n f k h = go (ltb (lowest n f) k) refl (ltb k (lowest n f)) refl
+  where
+    go : (a : Bool) → ltb (lowest n f) k ≡ a → (b : Bool) → ltb k (lowest n f) ≡ b → lowest n f ≡ k
+    go true p b q =
+        let l = ltb-true (lowest n f) k p in
+        absurd (true≢false (sym (lowest-hit n f (omega (arith, h .0))) ∙ h .2 (lowest n f) l))
+    go false p true q = absurd (true≢false (sym (h .1) ∙ lowest-least n f k (ltb-true k (lowest n f) q)))
+    go false p false q = omega (arith, ltb-false (lowest n f) k p, ltb-false k (lowest n f) q)
+
 -- tests that agree below the bound have the same lowest
 pub lowest-same : (n : ℕ) (f g : ℕ → Bool) → ((k : ℕ) → k < n → f k ≡ g k) → lowest n f ≡ lowest n g
 lowest-same n f g e = first-same f g 0 n (λ j l. e j (omega arith))

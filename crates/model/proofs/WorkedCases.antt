@@ -9,6 +9,7 @@ use Rattle.model.specs.AxiomCases.{loadValueCases, atomicityCases, state
 use Rattle.model.specs.PrunedCases.{settledCases, spoiledCases, prunedCases}
 use Rattle.model.specs.FollowingCases.{followingCases, conditionCases, unknownCases, unusedCases}
 use Rattle.model.specs.LineCases.{line5Cases, line6Cases, line7Cases, textLine7Cases, line8Cases, line9Cases, line10Cases, line11Cases, line21Cases, lineOrderCases}
+use Rattle.model.specs.TsoCases.{tsoCases, tsoRuleCases, tsoLineCases}
 use Rattle.model.specs.Worked.{together, headings, worked}
 
 litmus-right : Every litmusCases
@@ -163,6 +164,18 @@ line-order-right : Every lineOrderCases
 unfolding computes
 line-order-right = (tt, refl, (tt, refl, (tt, refl, (tt, refl, (tt, refl, (tt, refl, (tt, refl, (tt, refl, (tt, refl, (tt, refl, tt))))))))))
 
+tso-right : Every tsoCases
+unfolding computes
+tso-right = (refl, refl, (refl, refl, (refl, refl, (refl, refl, (refl, refl, (refl, refl, (refl, refl, (refl, refl, (refl, refl, (refl, refl, (refl, refl, (refl, refl, (refl, refl, (refl, refl, tt))))))))))))))
+
+tso-rule-right : Every tsoRuleCases
+unfolding computes
+tso-rule-right = (refl, refl, (refl, refl, (refl, refl, (refl, refl, (refl, refl, (refl, refl, (refl, refl, (refl, refl, (refl, refl, (refl, refl, (refl, refl, (refl, refl, (refl, refl, (refl, refl, (refl, refl, (refl, refl, (refl, refl, (refl, refl, (refl, refl, (refl, refl, (refl, refl, tt)))))))))))))))))))))
+
+tso-line-right : Every tsoLineCases
+unfolding computes
+tso-line-right = (tt, refl, (tt, refl, (tt, refl, (tt, refl, (tt, refl, (tt, refl, (tt, refl, (tt, refl, (tt, refl, (tt, refl, (tt, refl, (tt, refl, (tt, refl, (tt, refl, (tt, refl, tt)))))))))))))))
+
 -- what is right of two lists is right of both together
 both : (cs ds : List Claim) → Every cs → Every ds → Every (cs ++ ds)
 both [] ds a b = b
@@ -178,4 +191,4 @@ all-together [] r = tt
 all-together (cs ∷ rest) r = both cs (together rest) (r .0) (all-together rest (r .1))
 
 pub worked-right : Every worked
-worked-right = all-together headings (litmus-right, (may-order-right, (rule1-right, (rule2-right, (rule3-right, (rule4-right, (rule5-right, (rule6-right, (rule7-right, (rule8-right, (rule9-right, (rule10-right, (rule11-right, (rule12-right, (rule13-right, (load-value-right, (atomicity-right, (stated-right, (verdict-right, (order-right, (prefix-right, (settled-right, (spoiled-right, (pruned-right, (following-right, (condition-right, (unknown-right, (unused-right, (line5-right, (line6-right, (line7-right, (text-line7-right, (line8-right, (line9-right, (line10-right, (line11-right, (line21-right, (line-order-right, tt))))))))))))))))))))))))))))))))))))))
+worked-right = all-together headings (litmus-right, (may-order-right, (rule1-right, (rule2-right, (rule3-right, (rule4-right, (rule5-right, (rule6-right, (rule7-right, (rule8-right, (rule9-right, (rule10-right, (rule11-right, (rule12-right, (rule13-right, (load-value-right, (atomicity-right, (stated-right, (verdict-right, (order-right, (prefix-right, (settled-right, (spoiled-right, (pruned-right, (following-right, (condition-right, (unknown-right, (unused-right, (line5-right, (line6-right, (line7-right, (text-line7-right, (line8-right, (line9-right, (line10-right, (line11-right, (line21-right, (line-order-right, (tso-right, (tso-rule-right, (tso-line-right, tt)))))))))))))))))))))))))))))))))))))))))

@@ -148,6 +148,7 @@ valued h l s i f es =
       locations = l;
       count = length es;
       stated = s;
+      model = 0;
       initial = filled 8 0 i;
       events = filled 32 blankEvent es;
       finals = filled 8 0 f;
@@ -156,6 +157,20 @@ valued h l s i f es =
 -- a test with zero initial values and no stated final value
 abbrev pub plainTest : (harts locations : ℕ) → List Event → Table
 plainTest h l es = valued h l 0 [] [] es
+
+-- the test in this model
+abbrev pub inModel : ℕ → Table → Table
+inModel m t =
+    record {
+      harts = t .harts;
+      locations = t .locations;
+      count = t .count;
+      stated = t .stated;
+      model = m;
+      initial = t .initial;
+      events = t .events;
+      finals = t .finals;
+    }
 
 -- the locations up to the last that the events touch
 abbrev pub touching : List Event → ℕ

@@ -15,4 +15,5 @@ pub mod AxiomCases
 pub mod PrunedCases
 pub mod FollowingCases
 pub mod LineCases
+pub mod TsoCases
 pub mod Worked

@@ -79,6 +79,7 @@ oneOf es =
       locations = 1;
       count = 1;
       stated = 0;
+      model = 0;
       initial = replicate 8 0;
       events = filled 32 blankEvent es;
       finals = replicate 8 0;

@@ -9,6 +9,7 @@ use Rattle.model.specs.PrunedCases.{settledCases, spoiledCases, prunedCa
 use Rattle.model.specs.FollowingCases.{followingCases, conditionCases, unknownCases, unusedCases}
 use Rattle.model.specs.LineCases.{line5Cases, line6Cases, line7Cases, textLine7Cases, line8Cases, line9Cases}
 use Rattle.model.specs.LineCases.{line10Cases, line11Cases, line21Cases, lineOrderCases}
+use Rattle.model.specs.TsoCases.{tsoCases, tsoRuleCases, tsoLineCases}
 
 -- the claims of each heading, one heading after the other
 abbrev pub together : List (List Claim) → List Claim
@@ -21,7 +22,7 @@ headings =
     ∷ rule9Cases ∷ rule10Cases ∷ rule11Cases ∷ rule12Cases ∷ rule13Cases ∷ loadValueCases ∷ atomicityCases ∷ statedCases ∷ verdictCases
     ∷ orderCases ∷ prefixCases ∷ settledCases ∷ spoiledCases ∷ prunedCases ∷ followingCases ∷ conditionCases
     ∷ unknownCases ∷ unusedCases ∷ line5Cases ∷ line6Cases ∷ line7Cases ∷ textLine7Cases ∷ line8Cases
-    ∷ line9Cases ∷ line10Cases ∷ line11Cases ∷ line21Cases ∷ lineOrderCases ∷ []
+    ∷ line9Cases ∷ line10Cases ∷ line11Cases ∷ line21Cases ∷ lineOrderCases ∷ tsoCases ∷ tsoRuleCases ∷ tsoLineCases ∷ []
 
 abbrev pub worked : List Claim
 worked = together headings

@@ -58,13 +58,23 @@ module _ (asked : ℕ → Bool) (most : ℕ) (extra : Bool) (t : Table) (range :
   unfolding fieldOutOfRange kind
   kind-fits e l = let h = field-fits e l in search (or-l, or-r)
 
-  named : (b a : ℕ) → b < t .count → a < t .count → depends t b a ≡ true → (po t a b ≡ true) × (memory t a ≡ true)
-  unfolding line9 namesWrongly names depends addressDepends dataDepends memory reads writes
-  named b a l j h =
+  -- what an address or data mask names: no later event, plain store or fence
+  rightly-named : (b a : ℕ) → b < t .count → a < t .count → depends t b a ≡ true →
+      (not (po t a b) || eqb (kind t a) store || fencingKind (kind t a)) ≡ false
+  unfolding line9 namesWrongly names depends addressDepends dataDepends
+  rightly-named b a l j h =
       let n = none-at (t .count) (line9 t) b (passed .dependencies) l in
       let w = none-at capacity (namesWrongly t b) a (search (or-l, or-r)) (omega (arith, passed .counts .events)) in
-      let r : (not (po t a b) || eqb (kind t a) store || fencingKind (kind t a)) ≡ false = rw h at w in
+      rw h at w
+
+  named : (b a : ℕ) → b < t .count → a < t .count → depends t b a ≡ true → (po t a b ≡ true) × (memory t a ≡ true)
+  unfolding memory reads writes
+  named b a l j h =
+      let r = rightly-named b a l j h in
       (not-false (po t a b) (search (or-l, or-r)), memory-kind (kind t a) (kind-fits a j) (search (or-l, or-r)))
+
+  pub no-store-named : (b a : ℕ) → b < t .count → a < t .count → depends t b a ≡ true → eqb (kind t a) store ≡ false
+  no-store-named b a l j h = let r = rightly-named b a l j h in search (or-l, or-r)
 
   pairs : (l s : ℕ) → l < t .count → s < t .count → paired t l s ≡ true → sameLocation t l s ≡ true
   unfolding line10 pairedHere

@@ -27,7 +27,7 @@ use Rattle.placing.proofs.WindowLaws.{Foreign, Closed, pairs-kept, pair
 use Rattle.placing.proofs.RereadLaws.{SecondKept, reads-closed, second-kept}
 
 -- rules 3 and 12 order readers only
-late-reads : (t : Table) (rf : List ℕ) (a b : ℕ) → (rule3 t rf a b || rule12 t rf a b) ≡ true → reads t b ≡ true
+pub late-reads : (t : Table) (rf : List ℕ) (a b : ℕ) → (rule3 t rf a b || rule12 t rf a b) ≡ true → reads t b ≡ true
 unfolding rule3 rule12
 late-reads t rf a b h =
     ⊎-elim (λ (q : rule3 t rf a b ≡ true). search (and-l, and-r)) (λ (q : rule12 t rf a b ≡ true). and-l (reads t b) _ q)

@@ -2,7 +2,7 @@
 use console::Line;
 
 // The numbers of refusals; one of them isn't given yet.
-const LAST: u8 = 23;
+const LAST: u8 = 24;
 
 const FREE: u8 = 22;
 

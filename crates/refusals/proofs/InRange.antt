@@ -9,7 +9,7 @@ use Rattle.edition.specs.Limits.{maxHarts, maxLocations}
 use Rattle.table.specs.declared.Event.{Event}
 use Rattle.table.specs.declared.Table.{Table}
 use Rattle.table.specs.Events.{event, hart, location, fencetso}
-use Rattle.refusals.specs.TableLines.{outside, statesMissing, headerWrong, line5}
+use Rattle.refusals.specs.TableLines.{outside, statesMissing, unknownModel, headerWrong, line5}
 use Rattle.refusals.specs.TableLines.{fieldOutOfRange, valueNotZero, fenceNotZero, operationOutOfRange, operandNotZero}
 use Rattle.refusals.specs.TableLines.{notApplied, shapeWrong, fieldsWrong, line7, valueStated, textLine7}
 
@@ -19,13 +19,32 @@ pub record InRange (most : ℕ) (t : Table) : Type 0 where
   pub locations : t .locations ≤ maxLocations
   pub events : t .count ≤ most
 
-pub in-range : (most : ℕ) (t : Table) → line5 most t ≡ false → InRange most t
+-- line 5, clause by clause
+record Clauses (most : ℕ) (t : Table) : Type 0 where
+  harts : outside (t .harts) maxHarts ≡ false
+  locations : outside (t .locations) maxLocations ≡ false
+  events : outside (t .count) most ≡ false
+  finals : statesMissing (t .stated) (t .locations) ≡ false
+  model : unknownModel (t .model) ≡ false
+
+clauses : (most : ℕ) (t : Table) → line5 most t ≡ false → Clauses most t
 unfolding line5 headerWrong
+clauses most t h =
+    let counts = outside (t .harts) maxHarts || outside (t .locations) maxLocations || outside (t .count) most in
+    let model = or-off (counts || statesMissing (t .stated) (t .locations)) (unknownModel (t .model)) h in
+    let finals = or-off counts (statesMissing (t .stated) (t .locations)) (model .0) in
+    let events = or-off (outside (t .harts) maxHarts || outside (t .locations) maxLocations) (outside (t .count) most) (finals .0) in
+    let locations = or-off (outside (t .harts) maxHarts) (outside (t .locations) maxLocations) (events .0) in
+    record { harts = locations .0; locations = locations .1; events = events .1; finals = finals .1; model = model .1 }
+
+pub in-range : (most : ℕ) (t : Table) → line5 most t ≡ false → InRange most t
 in-range most t h =
-    let a = or-off (outside (t .harts) maxHarts || outside (t .locations) maxLocations || outside (t .count) most) (statesMissing (t .stated) (t .locations)) h in
-    let b = or-off (outside (t .harts) maxHarts || outside (t .locations) maxLocations) (outside (t .count) most) (a .0) in
-    let d = or-off (outside (t .harts) maxHarts) (outside (t .locations) maxLocations) (b .0) in
-    record { harts = up-to (t .harts) maxHarts (d .0); locations = up-to (t .locations) maxLocations (d .1); events = up-to (t .count) most (b .1) }
+    let passed = clauses most t h in
+    record {
+      harts = up-to (t .harts) maxHarts (passed .harts);
+      locations = up-to (t .locations) maxLocations (passed .locations);
+      events = up-to (t .count) most (passed .events);
+    }
   where
     up-to : (n m : ℕ) → outside n m ≡ false → n ≤ m
     up-to n m h = ltb-false m n (or-off (eqb n 0) (ltb m n) h .1)
@@ -34,9 +53,9 @@ in-range most t h =
 pub fewer-in-range : (most fewer : ℕ) (t : Table) → line5 most t ≡ false → t .count ≤ fewer → line5 fewer t ≡ false
 unfolding line5 headerWrong
 fewer-in-range most fewer t h l =
-    let a = or-off (outside (t .harts) maxHarts || outside (t .locations) maxLocations || outside (t .count) most) (statesMissing (t .stated) (t .locations)) h in
-    let b = or-off (outside (t .harts) maxHarts || outside (t .locations) maxLocations) (outside (t .count) most) (a .0) in
-    rw (b .0, or-off (eqb (t .count) 0) (ltb most (t .count)) (b .1) .0, le-ltb fewer (t .count) l, a .1) refl
+    let passed = clauses most t h in
+    let some-event = or-off (eqb (t .count) 0) (ltb most (t .count)) (passed .events) .0 in
+    rw (passed .harts, passed .locations, some-event, le-ltb fewer (t .count) l, passed .finals, passed .model) refl
 
 -- with more events it does
 pub too-many : (most : ℕ) (t : Table) → ltb most (t .count) ≡ true → line5 most t ≡ true

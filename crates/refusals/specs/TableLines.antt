@@ -12,7 +12,7 @@ use Rattle.operation.specs.Operation.{noOperation, amominu, applied}
 use Rattle.table.specs.declared.Event.{Event}
 use Rattle.table.specs.declared.Table.{Table}
 use Rattle.table.specs.Events.{capacity, event, kind, location, writes, memory, sameLocation, po, paired, readingKind, writingKind, memoryKind, fencingKind, load, store, amo, lr, sc, fencetso}
-use Rattle.table.specs.Annotations.{acquirePc, acquireSc, releasePc, releaseSc, acquiring, releasing}
+use Rattle.table.specs.Annotations.{rvtso, acquirePc, acquireSc, releasePc, releaseSc, acquiring, releasing}
 use Rattle.refusals.specs.Lines.{Line, whole, record-of}
 
 -- n is not one of 1 .. most
@@ -27,13 +27,17 @@ missing stated locations x = bit stated x && leb locations x
 unfoldable pub statesMissing : (stated locations : ℕ) → Bool
 statesMissing stated locations = some maxLocations (missing stated locations)
 
+-- "Header byte 9 becomes the model, 0 or 1; others are refusal 5"
+abbrev pub unknownModel : ℕ → Bool
+unknownModel model = ltb rvtso model
+
 -- 5: "harts, locations or events out of range, or the final mask names a location not in the test"
-unfoldable pub headerWrong : (most harts locations events stated : ℕ) → Bool
-headerWrong most harts locations events stated =
-    outside harts maxHarts || outside locations maxLocations || outside events most || statesMissing stated locations
+unfoldable pub headerWrong : (most harts locations events stated model : ℕ) → Bool
+headerWrong most harts locations events stated model =
+    outside harts maxHarts || outside locations maxLocations || outside events most || statesMissing stated locations || unknownModel model
 
 unfoldable pub line5 : (most : ℕ) → Table → Bool
-line5 most t = headerWrong most (t .harts) (t .locations) (t .count) (t .stated)
+line5 most t = headerWrong most (t .harts) (t .locations) (t .count) (t .stated) (t .model)
 
 -- "initial values of locations not in the test"
 unfoldable pub initialNotZero : (locations : ℕ) (initial : List ℕ) → ℕ → Bool

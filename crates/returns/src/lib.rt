@@ -118,7 +118,7 @@ fn writes_to(t: Table, x: LocationNo, w: EventNo) -> bool
 }
 
 // The last write to location x in the order.
-fn last_writer(t: Table, gmo: &[u8], x: LocationNo) -> u8
+pub fn last_writer(t: Table, gmo: &[u8], x: LocationNo) -> u8
     ensures { λ w. ⌜ w ≡ lastOr (writesTo t (x .0)) initially (now (gmo .entry)) ⌝ }
 {
     let mut latest = INITIALLY;

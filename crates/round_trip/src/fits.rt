@@ -71,6 +71,7 @@ pub fn table(t: Table)
     byte(t.locations);
     byte(t.count);
     byte(t.stated);
+    byte(t.model);
     let initial = t.initial;
     values(initial);
     let list = t.events;

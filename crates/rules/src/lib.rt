@@ -9,6 +9,7 @@ use overlap::rule3;
 use pipeline::rule12;
 use pipeline::rule13;
 use rule_sets::RULES;
+use synchronization::annotations;
 use synchronization::rule4;
 use synchronization::rule5;
 use synchronization::rule6;
@@ -31,6 +32,8 @@ fn rules(t: Table, rf: &[u8], a: EventNo, b: EventNo) -> [bool; RULES]
 {
     let x = t.events[a.0 as usize];
     let y = t.events[b.0 as usize];
+    let p = annotations(t.model, x);
+    let q = annotations(t.model, y);
     let second = rule2(t, rf, a, b);
     let third = rule3(rf, a, x, b, y);
     let twelfth = rule12(t, rf, a, b);
@@ -39,9 +42,9 @@ fn rules(t: Table, rf: &[u8], a: EventNo, b: EventNo) -> [bool; RULES]
         second,
         third,
         rule4(t, a, b),
-        rule5(x),
-        rule6(y),
-        rule7(x, y),
+        rule5(p),
+        rule6(q),
+        rule7(p, q),
         rule8(t, a, b),
         rule9(a, y),
         rule10(a, y),

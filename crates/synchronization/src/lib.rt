@@ -2,14 +2,15 @@
 use table::Event;
 use table::EventNo;
 use table::Kind;
+use table::Model;
 use table::Table;
 ghost use Prim.Native.Nat.{_≤_, _<_};
 ghost use mathlib.Core.Path.{_≡_};
-ghost use mathlib.Core.Bool.{_&&_, _||_};
+ghost use mathlib.Core.Bool.{cond, _&&_, _||_};
 ghost use lib.Dec.{eqb};
 ghost use Rattle.masks.specs.Bit.{bit};
 ghost use Rattle.table.specs.Events.{capacity, readingKind, writingKind, fence, fencetso};
-ghost use Rattle.table.specs.Annotations.{annotations, acquireSc, releaseSc, acquiring, releasing, pr, pw, sr, sw};
+ghost use Rattle.table.specs.Annotations.{rvtso, ztso, annotations, acquireSc, releaseSc, acquiring, releasing, pr, pw, sr, sw};
 ghost use Rattle.model.specs.Rules.{rule4, rule8};
 
 // Bits of `flags`: the annotations of a memory event, the sets of a fence.
@@ -38,14 +39,6 @@ pub fn flagged(e: Event, k: u32) -> bool
     ensures { λ r. ⌜ r ≡ bit (e .flags) k ⌝ }
 {
     masks::has(e.flags as u32, k)
-}
-
-// A memory event has the annotation, as the rules read it.
-fn annotated(e: Event, k: u32) -> bool
-    requires { ⌜ k < 32 ⌝ }
-    ensures { λ r. ⌜ r ≡ bit (annotations e) k ⌝ }
-{
-    flagged(e, k)
 }
 
 // Fence f orders x before y: "a reads and pr or a writes and pw, with b reads and sr or b writes and sw".
@@ -87,44 +80,94 @@ pub fn rule4(t: Table, a: EventNo, b: EventNo) -> bool
     false
 }
 
-// The event has an acquire annotation, of either kind.
-pub fn acquires(e: Event) -> bool
-    ensures { λ r. ⌜ r ≡ acquiring (annotations e) ⌝ }
-{
-    annotated(e, Flag::ACQUIRE_PC) | annotated(e, Flag::ACQUIRE_SC)
+// What RVTSO adds to what an event carries.
+struct Tso;
+
+impl Tso {
+    // Acquire-RCpc.
+    const LOAD: u8 = 1;
+
+    // Release-RCpc.
+    const STORE: u8 = 4;
+
+    // Acquire-RCsc and release-RCsc.
+    const AMO: u8 = 10;
 }
 
-// It has a release annotation.
-pub fn releases(e: Event) -> bool
-    ensures { λ r. ⌜ r ≡ releasing (annotations e) ⌝ }
+fn ztso(kind: u8) -> u8
+    ensures { λ r. ⌜ r ≡ ztso kind ⌝ }
 {
-    annotated(e, Flag::RELEASE_PC) | annotated(e, Flag::RELEASE_SC)
+    if (kind == Kind::LOAD) | (kind == Kind::LR) {
+        return Tso::LOAD;
+    }
+    if (kind == Kind::STORE) | (kind == Kind::SC) {
+        return Tso::STORE;
+    }
+    if kind == Kind::AMO {
+        return Tso::AMO;
+    }
+    0
 }
 
-// It has an RCsc annotation.
-pub fn rcsc(e: Event) -> bool
-    ensures { λ r. ⌜ r ≡ (acquireSc (annotations e) || releaseSc (annotations e)) ⌝ }
+fn added(model: u8, kind: u8) -> u8
+    ensures { λ r. ⌜ r ≡ cond (eqb model rvtso) (ztso kind) 0 ⌝ }
 {
-    annotated(e, Flag::ACQUIRE_SC) | annotated(e, Flag::RELEASE_SC)
+    if model == Model::RVTSO { ztso(kind) } else { 0 }
 }
 
-// "a has an acquire."
-pub fn rule5(x: Event) -> bool
-    ensures { λ r. ⌜ r ≡ acquiring (annotations x) ⌝ }
+// The annotations of a memory event, as the rules read them.
+pub fn annotations(model: u8, e: Event) -> u8
+    ensures { λ r. ⌜ r ≡ annotations model e ⌝ }
+{
+    e.flags | added(model, e.kind)
+}
+
+// Annotations have this one.
+fn annotated(flags: u8, k: u32) -> bool
+    requires { ⌜ k < 32 ⌝ }
+    ensures { λ r. ⌜ r ≡ bit flags k ⌝ }
+{
+    masks::has(flags as u32, k)
+}
+
+// They have an acquire, of either kind.
+pub fn acquires(flags: u8) -> bool
+    ensures { λ r. ⌜ r ≡ acquiring flags ⌝ }
+{
+    annotated(flags, Flag::ACQUIRE_PC) | annotated(flags, Flag::ACQUIRE_SC)
+}
+
+// They have a release.
+pub fn releases(flags: u8) -> bool
+    ensures { λ r. ⌜ r ≡ releasing flags ⌝ }
+{
+    annotated(flags, Flag::RELEASE_PC) | annotated(flags, Flag::RELEASE_SC)
+}
+
+// They have an RCsc one.
+pub fn rcsc(flags: u8) -> bool
+    ensures { λ r. ⌜ r ≡ (acquireSc flags || releaseSc flags) ⌝ }
+{
+    annotated(flags, Flag::ACQUIRE_SC) | annotated(flags, Flag::RELEASE_SC)
+}
+
+// "a has an acquire.": x are its annotations.
+pub fn rule5(x: u8) -> bool
+    ensures { λ r. ⌜ r ≡ acquiring x ⌝ }
 {
     acquires(x)
 }
 
-// "b has a release."
-pub fn rule6(y: Event) -> bool
-    ensures { λ r. ⌜ r ≡ releasing (annotations y) ⌝ }
+// "b has a release.": y are its annotations.
+pub fn rule6(y: u8) -> bool
+    ensures { λ r. ⌜ r ≡ releasing y ⌝ }
 {
     releases(y)
 }
 
 // "Both have an RCsc annotation."
-pub fn rule7(x: Event, y: Event) -> bool
-    ensures { λ r. ⌜ r ≡ ((acquireSc (annotations x) || releaseSc (annotations x)) && (acquireSc (annotations y) || releaseSc (annotations y))) ⌝ }
+pub fn rule7(x: u8, y: u8) -> bool
+    ensures { λ r. ⌜ r ≡ ((acquireSc x || releaseSc x) && (acquireSc y || releaseSc y)) ⌝ }
 {
     rcsc(x) & rcsc(y)
 }

@@ -18,11 +18,11 @@ event-same d e a b f g i j k l m n o =
         record { kind = k; hart = h; location = record { 0 = x }; flags = f; addr = a; «data» = d; ctrl = c; read = r; written = w; operation = p; operand = o }
 
 pub table-same : (t u : Table) → t .harts ≡ u .harts → t .locations ≡ u .locations → t .count ≡ u .count → t .stated ≡ u .stated
-    → t .initial ≡ u .initial → t .events ≡ u .events → t .finals ≡ u .finals → t ≡ u
-table-same t u a b d e f g h =
-    let same : made (t .harts) (t .locations) (t .count) (t .stated) (t .initial) (t .events) (t .finals)
-    ≡ made (u .harts) (u .locations) (u .count) (u .stated) (u .initial) (u .events) (u .finals) = cc in
+    → t .model ≡ u .model → t .initial ≡ u .initial → t .events ≡ u .events → t .finals ≡ u .finals → t ≡ u
+table-same t u a b d e f g h i =
+    let same : made (t .harts) (t .locations) (t .count) (t .stated) (t .model) (t .initial) (t .events) (t .finals)
+    ≡ made (u .harts) (u .locations) (u .count) (u .stated) (u .model) (u .initial) (u .events) (u .finals) = cc in
     same
   where
-    made : (h l c s : ℕ) → List ℕ → List Event → List ℕ → Table
-    made h l c s i e f = record { harts = h; locations = l; count = c; stated = s; initial = i; events = e; finals = f }
+    made : (h l c s m : ℕ) → List ℕ → List Event → List ℕ → Table
+    made h l c s m i e f = record { harts = h; locations = l; count = c; stated = s; model = m; initial = i; events = e; finals = f }

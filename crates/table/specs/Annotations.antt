@@ -1,10 +1,12 @@
 -- "The block": flags and dependency masks.
-use Prim.Native.Nat.{ℕ}
-use mathlib.Core.Bool.{Bool, _&&_, _||_}
+use Prim.Native.Nat.{ℕ, _+_}
+use mathlib.Core.Bool.{Bool, cond, _&&_, _||_}
+use lib.Bits.{bitOr}
+use lib.Dec.{eqb}
 use Rattle.masks.specs.Bit.{bit}
 use Rattle.table.specs.declared.Event.{Event}
 use Rattle.table.specs.declared.Table.{Table}
-use Rattle.table.specs.Events.{event}
+use Rattle.table.specs.Events.{event, load, store, amo, lr, sc}
 
 -- "Memory flags from bit 0: acquire-RCpc, acquire-RCsc, release-RCpc, release-RCsc."
 abbrev pub acquirePc : ℕ → Bool
@@ -42,21 +44,33 @@ sw f = bit f 3
 unfoldable pub flags : Table → ℕ → ℕ
 flags t e = event t e .flags
 
--- the annotations of a memory event, as the rules read them: those that it carries
-abbrev pub annotations : Event → ℕ
-annotations e = e .flags
+-- "Header byte 9 becomes the model": 0 is RVWMO, 1 is RVTSO
+abbrev pub rvwmo : ℕ
+rvwmo = 0
+
+abbrev pub rvtso : ℕ
+rvtso = 1
+
+-- "every load or LR behaves as if it had acquire-RCpc, every store or SC release-RCpc, and every AMO acquire-RCsc and
+-- release-RCsc": the flags of these, by kind
+unfoldable pub ztso : ℕ → ℕ
+ztso k = cond (eqb k load || eqb k lr) 1 (cond (eqb k store || eqb k sc) 4 (cond (eqb k amo) (2 + 8) 0))
+
+-- the annotations of a memory event, as the rules read them: the model's "besides what it carries"
+unfoldable pub annotations : ℕ → Event → ℕ
+annotations model e = bitOr (e .flags) (cond (eqb model rvtso) (ztso (e .kind)) 0)
 
 -- e has an acquire annotation
 unfoldable pub acquire : Table → ℕ → Bool
-acquire t e = acquiring (annotations (event t e))
+acquire t e = acquiring (annotations (t .model) (event t e))
 
 -- e has a release annotation
 unfoldable pub release : Table → ℕ → Bool
-release t e = releasing (annotations (event t e))
+release t e = releasing (annotations (t .model) (event t e))
 
 -- e has an RCsc annotation
 unfoldable pub rcsc : Table → ℕ → Bool
-rcsc t e = acquireSc (annotations (event t e)) || releaseSc (annotations (event t e))
+rcsc t e = acquireSc (annotations (t .model) (event t e)) || releaseSc (annotations (t .model) (event t e))
 
 -- "Bit k of a record's mask (bit 0 lowest) names event k, an earlier event depended on"
 unfoldable pub addressDepends : Table → ℕ → ℕ → Bool

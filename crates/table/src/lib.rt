@@ -40,6 +40,15 @@ impl Kind {
     pub const FENCE_TSO: u8 = 7;
 }
 
+// The memory models.
+pub struct Model;
+
+impl Model {
+    pub const RVWMO: u8 = 0;
+
+    pub const RVTSO: u8 = 1;
+}
+
 #[repr(C)]
 pub struct Event {
     pub kind: u8,
@@ -62,6 +71,7 @@ pub struct Table {
     pub locations: u8,
     pub count: u8,
     pub stated: u8,
+    pub model: u8,
     pub initial: [u16; LOCATIONS],
     pub events: [Event; CAPACITY],
     pub finals: [u16; LOCATIONS],

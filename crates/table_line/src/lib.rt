@@ -54,6 +54,7 @@ pub fn fields(line: Line, t: Table) -> Line {
         .spaced(t.harts as u64)
         .spaced(t.locations as u64)
         .spaced(t.count as u64)
-        .spaced(t.stated as u64);
+        .spaced(t.stated as u64)
+        .spaced(t.model as u64);
     events(values(values(header, initial), finals), t)
 }

@@ -173,7 +173,7 @@ module _ (t u : Table) (count : u .count ≡ t .count) (alike : (k : ℕ) → Al
 module _ (t u : Table) (a : AsBlock t u) where
   five-same : (most : ℕ) → line5 most u ≡ line5 most t
   unfolding line5
-  five-same most = rw (a .harts, a .locations, a .count, a .stated) refl
+  five-same most = rw (a .harts, a .locations, a .count, a .stated, a .model) refl
 
   past-same : (k : ℕ) → pastNotBlank u k ≡ pastNotBlank t k
   unfolding pastNotBlank

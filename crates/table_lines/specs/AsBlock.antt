@@ -36,6 +36,7 @@ pub record AsBlock (t u : Table) : Type 0 where
   pub locations : u .locations ≡ t .locations
   pub count : u .count ≡ t .count
   pub stated : u .stated ≡ t .stated
+  pub model : u .model ≡ t .model
   pub initial : u .initial ≡ t .initial
   pub finals : u .finals ≡ t .finals
   pub events : (k : ℕ) → event u k ≡ cond (ltb k (t .count)) (asBlock (t .harts) (t .locations) (event t k)) (event t k)

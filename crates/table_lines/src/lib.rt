@@ -191,7 +191,7 @@ pub fn refuse(t: Table, named: u8, most: usize, extra: bool) -> Refusal
     requires { ⌜ most ≤ capacity ⌝ }
     ensures { λ r. ⌜ refusalOf r ≡ firstLine (t .count) (tableLinesBy (line7 t) most extra t ++ (whole 21 (line21 (bit named) t) ∷ [])) ⌝ }
 {
-    if whole_lines::line5(most, t.harts, t.locations, t.count, t.stated) {
+    if whole_lines::line5(most, t.harts, t.locations, t.count, t.stated, t.model) {
         return Refusal::Line(5);
     }
     let initial = t.initial;
@@ -239,6 +239,7 @@ fn table_as_block(t: Table) -> Table
         locations: t.locations,
         count: t.count,
         stated: t.stated,
+        model: t.model,
         initial,
         events,
         finals,

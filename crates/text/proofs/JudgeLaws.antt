@@ -14,7 +14,7 @@ use Rattle.edition.specs.Limits.{two, mostEvents, maxHarts, maxLocations}
 use Rattle.table.specs.declared.Table.{Table}
 use Rattle.table.specs.Events.{capacity}
 use Rattle.refusals.specs.Lines.{Refused, accepted, byLine, Line, whole, firstLine, unless}
-use Rattle.refusals.specs.TableLines.{outside, statesMissing, headerWrong, line5, line21, textLine7, tableLinesBy}
+use Rattle.refusals.specs.TableLines.{outside, statesMissing, unknownModel, headerWrong, line5, line21, textLine7, tableLinesBy}
 use Rattle.refusals.specs.declared.Refusal.the-variants.{None}
 use Rattle.refusals.proofs.InRange.{text-asks-range, places-in-range}
 use Rattle.refusals.proofs.LineLaws.{line-refuses, none-here, whole-here, whole-next, whole-off}
@@ -52,26 +52,22 @@ module _ (t : Table) where
   abbrev events : Bool
   events = outside (t .count) (mostEvents two)
 
-  abbrev finals : Bool
-  finals = statesMissing (t .stated) (t .locations)
+  counts-over : (harts || locations || events) ≡ true → line5 (mostEvents two) t ≡ true
+  unfolding line5 headerWrong
+  counts-over h =
+      or-first (harts || locations || events || finals) (unknownModel (t .model)) (or-first (harts || locations || events) finals h)
+    where
+      finals : Bool
+      finals = statesMissing (t .stated) (t .locations)
 
   pub events-over : mostEvents two < t .count → line5 (mostEvents two) t ≡ true
-  unfolding line5 headerWrong
-  events-over h =
-      or-first (harts || locations || events) finals
-      (or-second (harts || locations) events (over (t .count) (mostEvents two) h))
+  events-over h = counts-over (or-second (harts || locations) events (over (t .count) (mostEvents two) h))
 
   pub locations-over : maxLocations < t .locations → line5 (mostEvents two) t ≡ true
-  unfolding line5 headerWrong
-  locations-over h =
-      or-first (harts || locations || events) finals
-      (or-first (harts || locations) events (or-second harts locations (over (t .locations) maxLocations h)))
+  locations-over h = counts-over (or-first (harts || locations) events (or-second harts locations (over (t .locations) maxLocations h)))
 
   pub harts-over : maxHarts < t .harts → line5 (mostEvents two) t ≡ true
-  unfolding line5 headerWrong
-  harts-over h =
-      or-first (harts || locations || events) finals
-      (or-first (harts || locations) events (or-first harts locations (over (t .harts) maxHarts h)))
+  harts-over h = counts-over (or-first (harts || locations) events (or-first harts locations (over (t .harts) maxHarts h)))
 
 -- a table that none of lines 5 to 11 refuses
 module _ (t : Table) (ok : firstLine (t .count) (tableLinesBy (textLine7 t) (mostEvents two) false t) ≡ accepted) where

@@ -11,6 +11,7 @@ use Rattle.lists.proofs.BoolLaws.{or-cases}
 use Rattle.edition.specs.Limits.{two, mostEvents, maxHarts, maxLocations}
 use Rattle.table.specs.declared.Event.{Event}
 use Rattle.table.specs.declared.Table.{Table}
+use Rattle.table.specs.Annotations.{rvwmo}
 use Rattle.table.proofs.SameFields.{table-same}
 use Rattle.refusals.specs.TableLines.{line5}
 use Rattle.text.specs.Texts.{covering}
@@ -42,9 +43,10 @@ module _ (events : List Event) (count : ℕ) (initial : List ℕ) (given : ℕ) 
       locations = locations;
       count = count;
       stated = 0;
+      model = rvwmo;
       initial = initial;
       events = events;
       finals = replicate maxLocations 0;
     } ≡ t
     unfolding tableFrom
-    table-made = table-same _ t e all-locations refl refl refl refl refl
+    table-made = table-same _ t e all-locations refl refl refl refl refl refl

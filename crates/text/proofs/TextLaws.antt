@@ -201,7 +201,7 @@ module _ (s : List ℕ) (short : length s ≤ maxText) (es : List (List ℕ)) (v
         (ap (λ (l : List Event). max given (covering (map (λ e. e .location .0) l))) (all-events h)
         ∙ ap (λ (l : List ℕ). max given (covering l)) (locations-of es)
         ∙ ap (λ (n : ℕ). max n (covering (column locationField es))) all-given)
-        counted refl values-kept events-kept refl
+        counted refl refl values-kept events-kept refl
 
     count-over : mostEvents two < count → (line5 (mostEvents two) t ≡ true) × (line5 (mostEvents two) (tableOf d) ≡ true)
     unfolding tableFrom tableOf

@@ -11,6 +11,7 @@ use Rattle.edition.specs.Limits.{two, mostEvents, maxLocations}
 use Rattle.table.specs.declared.Event.{Event}
 use Rattle.table.specs.declared.Table.{Table}
 use Rattle.table.specs.Events.{capacity, event, readingKind}
+use Rattle.table.specs.Annotations.{rvwmo}
 use Rattle.refusals.specs.Lines.{Refused, accepted, Line, whole, firstLine, unless}
 use Rattle.refusals.specs.TableLines.{textLine7, line21, tableLinesBy}
 use Rattle.block.specs.Reading.{noTable}
@@ -56,6 +57,7 @@ tableFrom events count initial given = record {
   locations = max given (covering (map (λ e. e .location .0) (take count events)));
   count = count;
   stated = 0;
+  model = rvwmo;
   initial = initial;
   events = events;
   finals = replicate maxLocations 0;

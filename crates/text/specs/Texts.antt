@@ -8,6 +8,7 @@ use Rattle.lists.specs.Filled.{upTo}
 use Rattle.edition.specs.Limits.{two, mostEvents, maxLocations}
 use Rattle.table.specs.declared.Table.{Table}
 use Rattle.table.specs.Events.{capacity}
+use Rattle.table.specs.Annotations.{rvwmo}
 use Rattle.refusals.specs.Lines.{Refused, Line, whole, place-of, firstLine, unless}
 use Rattle.refusals.specs.TableLines.{textLine7, line21, tableLinesBy}
 use Rattle.block.specs.Reading.{noTable}
@@ -46,13 +47,14 @@ covering [] = 0
 covering (v ∷ vs) = max (suc v) (covering vs)
 
 -- "The number of harts and locations is the least that covers the fields and the initial values"; "(values not given are 0)". No
--- final value is stated, and slots past the events are blank.
+-- final value is stated, and slots past the events are blank. "texts are of model 0".
 unfoldable pub tableOf : Document → Table
 tableOf d = record {
   harts = covering (column hartField (d .events));
   locations = max (length (d .initial)) (covering (column locationField (d .events)));
   count = length (d .events);
   stated = 0;
+  model = rvwmo;
   initial = upTo maxLocations (λ x. getD (d .initial) x 0);
   events = upTo capacity (λ k. eventOf (getD (d .events) k []));
   finals = replicate maxLocations 0;

@@ -8,6 +8,7 @@ use refusals::Refusal;
 use table::CAPACITY;
 use table::Event;
 use table::LOCATIONS;
+use table::Model;
 use table::Table;
 use text_lines::Rows;
 ghost use Prim.Native.Nat.{_≤_, max};
@@ -220,6 +221,7 @@ fn tabulate(
         locations: locations as u8,
         count: count as u8,
         stated: 0,
+        model: Model::RVWMO,
         initial,
         events,
         finals: [0; LOCATIONS],

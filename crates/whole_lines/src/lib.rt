@@ -3,6 +3,7 @@
 use edition::EditionOne;
 use table::Event;
 use table::LOCATIONS;
+use table::Model;
 use table::Table;
 ghost use mathlib.Core.Path.{_≡_};
 ghost use Rattle.lists.specs.Below.{some};
@@ -24,13 +25,14 @@ fn states_missing(stated: u8, locations: u8) -> bool
 }
 
 // `most` is the number of events that the edition allows.
-pub fn line5(most: usize, harts: u8, locations: u8, events: u8, stated: u8) -> bool
-    ensures { λ r. ⌜ r ≡ headerWrong most harts locations events stated ⌝ }
+pub fn line5(most: usize, harts: u8, locations: u8, events: u8, stated: u8, model: u8) -> bool
+    ensures { λ r. ⌜ r ≡ headerWrong most harts locations events stated model ⌝ }
 {
     refusals::outside(harts, EditionOne::HARTS)
         | refusals::outside(locations, EditionOne::LOCATIONS)
         | refusals::outside(events, most)
         | states_missing(stated, locations)
+        | (Model::RVTSO < model)
 }
 
 // Line 6 is this and the next two.

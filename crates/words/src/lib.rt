@@ -13,7 +13,7 @@ the test is shorter than a block of 512 bytes, or isn't as long as those of its 
 the check in bytes 508 to 511 of a block isn't the weighted sum of the bytes before it
 the test doesn't begin with the marker RVT1 (52 56 54 31 hex)
 the edition in byte 4 is neither 1 nor 2
-the number of harts (1 to 4), locations (1 to 8) or events (1 to 16, in edition 2 and in a text to 30) is out of range, or a final value is stated of a location that isn't in the test
+the number of harts (1 to 4), locations (1 to 8) or events (1 to 16, in edition 2 and in a text to 30) or the model (0 or 1) is out of range, or a final value is stated of a location that isn't in the test
 a byte that must be zero isn't: an unused byte, an initial value of a location that isn't in the test, a final value that isn't stated, or a record past the events
 the record's kind, hart, location, flags or operation are out of range, or it has what its kind can't have: a value read on an event that doesn't read, a value written on one that doesn't write, a location or a mask on a fence, flags on a fence.tso, an operation on an event that isn't an AMO; or it has an operand without an operation, or a value written that isn't what the operation makes of the value read; or, in a text, it states a value read, or a value written by an AMO with an operation
 the record's annotations don't go together: both acquires or both releases at once, a release without an acquire on a load or an LR, or an acquire without a release on a plain store or an SC
@@ -32,6 +32,7 @@ a `not` or a bracket begins a ninth level here, and a condition has at most eigh
 a location of the test is touched by no memory event, and its final value isn't stated (in a text: the condition doesn't name it)
 
 the condition names an event that doesn't read, or a location that isn't in the test
+the list of steps isn't a run of the machine, the machine doesn't take this step, or the test isn't of model 1
 ";
     line.text(console::row(table, n))
 }

@@ -13,7 +13,7 @@ use Rattle.table.specs.Events.{event}
 use Rattle.checksum.specs.Checksum.{covered, weightedFrom, checksum}
 use Rattle.decode.specs.Layout.{byteAt}
 use Rattle.record_bytes.specs.RecordBytes.{two, codeBytes, maskBytes, operationBytes, recordBytes}
-use Rattle.encode.specs.Encoded.{zeros, joined, valueBytes, markerBytes, countBytes, statedBytes, headerZeros, initialBytes, recordsBytes, finalBytes, tailZeros, coveredBytes, checkBytes, encoded}
+use Rattle.encode.specs.Encoded.{zeros, joined, valueBytes, markerBytes, countBytes, statedBytes, modelBytes, headerZeros, initialBytes, recordsBytes, finalBytes, tailZeros, coveredBytes, checkBytes, encoded}
 use Rattle.encode.specs.Begun.{header, front}
 use Rattle.encode.proofs.LengthLaws.{length-covered}
 use Rattle.writer.specs.Fits.{Bytes, EventFits, TableFits}
@@ -70,8 +70,10 @@ unfolding coveredBytes front
 bytes-covered t f =
     let marker : Bytes markerBytes = (omega arith, (omega arith, (omega arith, (omega arith, tt)))) in
     let counts : Bytes (countBytes t) = (omega arith, (f .harts, (f .locations, (f .count, tt)))) in
-    let fields = bytes-append (markerBytes ++ countBytes t) (statedBytes t) (bytes-append markerBytes (countBytes t) marker counts) (f .stated, tt) in
-    let zeroed = bytes-append (header t) headerZeros fields (bytes-zeros 7) in
+    let counted = bytes-append markerBytes (countBytes t) marker counts in
+    let stated = bytes-append (markerBytes ++ countBytes t) (statedBytes t) counted (f .stated, tt) in
+    let fields = bytes-append (markerBytes ++ countBytes t ++ statedBytes t) (modelBytes t) stated (f .model, tt) in
+    let zeroed = bytes-append (header t) headerZeros fields (bytes-zeros 6) in
     let initial = bytes-append (header t ++ headerZeros) (initialBytes t) zeroed (bytes-values (t .initial)) in
     let records = bytes-append (front t) (recordsBytes t) initial (bytes-records t f) in
     let finals = bytes-append (front t ++ recordsBytes t) (finalBytes t) records (bytes-values (t .finals)) in

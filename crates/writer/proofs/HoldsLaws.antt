@@ -8,7 +8,7 @@ use Rattle.edition.specs.Limits.{one, maxLocations, mostEvents}
 use Rattle.table.specs.declared.Table.{Table}
 use Rattle.table.specs.Events.{event}
 use Rattle.record_bytes.specs.RecordBytes.{two, recordBytes}
-use Rattle.encode.specs.Encoded.{valueBytes, markerBytes, countBytes, statedBytes, headerZeros, initialBytes, recordsBytes, finalBytes, tailZeros, coveredBytes}
+use Rattle.encode.specs.Encoded.{valueBytes, markerBytes, countBytes, statedBytes, modelBytes, headerZeros, initialBytes, recordsBytes, finalBytes, tailZeros, coveredBytes}
 use Rattle.encode.specs.Begun.{header, front}
 use Rattle.encode.proofs.LengthLaws.{length-values, length-record, length-records, length-front}
 use Rattle.writer.proofs.StandsLaws.{Stands, stands-left, stands-right, stands-both, stands-each, stands-joined}
@@ -17,7 +17,8 @@ pub record Holds (s : List ℕ) (t : Table) : Type 0 where
   pub marker : Stands s 0 markerBytes
   pub counts : Stands s 4 (countBytes t)
   pub stated : Stands s 8 (statedBytes t)
-  pub header : Stands s 9 headerZeros
+  pub model : Stands s 9 (modelBytes t)
+  pub header : Stands s 10 headerZeros
   pub initial : (x : ℕ) → x < maxLocations → Stands s (16 + 2 * x) (two (getD (t .initial) x 0))
   pub records : (k : ℕ) → k < mostEvents one → Stands s (32 + 16 * k) (recordBytes (event t k))
   pub finals : (x : ℕ) → x < maxLocations → Stands s (288 + 2 * x) (two (getD (t .finals) x 0))
@@ -57,12 +58,14 @@ holds s t h =
     let to-records = stands-left s (front t) (recordsBytes t) 0 to-finals in
     let to-initial = stands-left s (header t ++ headerZeros) (initialBytes t) 0 to-records in
     let to-zeros = stands-left s (header t) headerZeros 0 to-initial in
-    let to-stated = stands-left s (markerBytes ++ countBytes t) (statedBytes t) 0 to-zeros in
+    let to-model = stands-left s (markerBytes ++ countBytes t ++ statedBytes t) (modelBytes t) 0 to-zeros in
+    let to-stated = stands-left s (markerBytes ++ countBytes t) (statedBytes t) 0 to-model in
     record {
       marker = stands-left s markerBytes (countBytes t) 0 to-stated;
       counts = stands-right s markerBytes (countBytes t) 0 4 refl to-stated;
-      stated = stands-right s (markerBytes ++ countBytes t) (statedBytes t) 0 8 refl to-zeros;
-      header = stands-right s (header t) headerZeros 0 9 refl to-initial;
+      stated = stands-right s (markerBytes ++ countBytes t) (statedBytes t) 0 8 refl to-model;
+      model = stands-right s (markerBytes ++ countBytes t ++ statedBytes t) (modelBytes t) 0 9 refl to-zeros;
+      header = stands-right s (header t) headerZeros 0 10 refl to-initial;
       initial = values-apart s (t .initial) 16 (stands-right s (header t ++ headerZeros) (initialBytes t) 0 16 refl to-records);
       records = records-apart s t (stands-right s (front t) (recordsBytes t) 0 32 (omega (arith, length-front t)) to-finals);
       finals = values-apart s (t .finals) 288 (stands-right s (front t ++ recordsBytes t) (finalBytes t) 0 288 (omega (arith, length-to-finals t)) to-tail);
@@ -74,8 +77,9 @@ pub holds-all : (s : List ℕ) (t : Table) → Holds s t → Stands s 0 (covered
 unfolding coveredBytes front
 holds-all s t h =
     let to-stated = stands-both s markerBytes (countBytes t) 0 4 refl (h .marker) (h .counts) in
-    let to-zeros = stands-both s (markerBytes ++ countBytes t) (statedBytes t) 0 8 refl to-stated (h .stated) in
-    let to-initial = stands-both s (header t) headerZeros 0 9 refl to-zeros (h .header) in
+    let to-model = stands-both s (markerBytes ++ countBytes t) (statedBytes t) 0 8 refl to-stated (h .stated) in
+    let to-zeros = stands-both s (markerBytes ++ countBytes t ++ statedBytes t) (modelBytes t) 0 9 refl to-model (h .model) in
+    let to-initial = stands-both s (header t) headerZeros 0 10 refl to-zeros (h .header) in
     let to-records = stands-both s (header t ++ headerZeros) (initialBytes t) 0 16 refl to-initial (values-joined s (t .initial) 16 (h .initial)) in
     let to-finals = stands-both s (front t) (recordsBytes t) 0 32 (omega (arith, length-front t)) to-records (records-joined s t (h .records)) in
     let to-tail =

@@ -77,6 +77,7 @@ module _ (s : List ℕ) (t : Table) (h : Holds s t) (f : TableFits t) (g : Good 
   unfolding decodedAs headed initialOf finalOf event
   decoded-back =
       table-same (decodedAs one s) t (h .counts 1 (omega arith)) (h .counts 2 (omega arith)) (h .counts 3 (omega arith)) (h .stated 0 (omega arith))
+      (h .model 0 (omega arith))
       (values-back s (t .initial) 16 (f .initial) (h .initial))
       (sym (upTo-same capacity (eventAt one s) noEvent (t .events) (f .long) (λ k l. sym (slot-back k l))))
       (values-back s (t .finals) 288 (f .finals) (h .finals))
@@ -84,7 +85,7 @@ module _ (s : List ℕ) (t : Table) (h : Holds s t) (f : TableFits t) (g : Good 
 -- no byte named zero isn't zero
 zeros-back : (s : List ℕ) (t : Table) → Holds s t → bytesNotZero one s ≡ false
 unfolding bytesNotZero
-zeros-back s t h = rw (zeros-stand s 9 7 (h .header), zeros-stand s 304 204 (h .tail)) refl
+zeros-back s t h = rw (zeros-stand s 10 6 (h .header), zeros-stand s 304 204 (h .tail)) refl
 
 -- the block of a table holds it
 encoded-holds : (t : Table) → Holds (encoded t) t

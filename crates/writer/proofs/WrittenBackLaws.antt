@@ -25,7 +25,7 @@ use Rattle.zero_bytes.specs.ZeroBytes.{headerZeros, tailZeros, bytesNotZero}
 use Rattle.block.specs.Reading.{line1, line2, line3, line4, lengthWrong, headerLines, lengthLines, editionRefusal, readRefusal}
 use Rattle.block.proofs.ReadingLaws.{passed-header, passed-edition, as-one}
 use Rattle.record_bytes.specs.RecordBytes.{two, codeBytes, maskBytes, operationBytes, recordBytes}
-use Rattle.encode.specs.Encoded.{four, markerBytes, countBytes, statedBytes, coveredBytes, checkBytes, encoded}
+use Rattle.encode.specs.Encoded.{four, markerBytes, countBytes, statedBytes, modelBytes, coveredBytes, checkBytes, encoded}
 use Rattle.encode.proofs.LengthLaws.{length-covered, length-encoded}
 use Rattle.writer.specs.Fits.{Bytes}
 use Rattle.writer.proofs.StandsLaws.{Stands, stands-all, stands-both, stands-zeros, entries-stand}
@@ -124,7 +124,8 @@ module _ (s : List ℕ) (bytes : Bytes s) where
         marker = entries-stand s 0 markerBytes (equal-of _ _ (m1 .0), (equal-of _ _ (m1 .1), (equal-of _ _ (m2 .1), (equal-of _ _ (m3 .1), tt))));
         counts = entries-stand s 4 (countBytes (decodedAs one s)) (p .edition, (refl, (refl, (refl, tt))));
         stated = entries-stand s 8 (statedBytes (decodedAs one s)) (refl, tt);
-        header = stands-zeros s 9 7 (zeroed .0);
+        model = entries-stand s 9 (modelBytes (decodedAs one s)) (refl, tt);
+        header = stands-zeros s 10 6 (zeroed .0);
         initial = λ x l. subst (λ (v : ℕ). Stands s (16 + 2 * x) (two v)) (sym (getD-upTo maxLocations (initialOf s) x 0 l)) (two-stand (16 + 2 * x));
         records = λ k l. subst (λ (e : Event). Stands s (32 + 16 * k) (recordBytes e)) (slot-is k l) (record-stands (32 + 16 * k));
         finals = λ x l. subst (λ (v : ℕ). Stands s (288 + 2 * x) (two v)) (sym (getD-upTo maxLocations (finalOf s) x 0 l)) (two-stand (288 + 2 * x));

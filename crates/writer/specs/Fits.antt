@@ -37,6 +37,7 @@ pub record TableFits (t : Table) : Type 0 where
   pub locations : t .locations < 2 ^ 8
   pub count : t .count < 2 ^ 8
   pub stated : t .stated < 2 ^ 8
+  pub model : t .model < 2 ^ 8
   pub initial : ValuesFit (t .initial)
   pub long : length (t .events) ≡ capacity
   pub each : (k : ℕ) → k < capacity → EventFits (event t k)

@@ -74,6 +74,7 @@ fn table(harts: u8) -> Table {
         locations: small(),
         count: small(),
         stated: small(),
+        model: small(),
         initial: values(),
         events: events(),
         finals: values(),

@@ -15,9 +15,9 @@ notZero s at i = not (eqb (byteAt s (at + i)) 0)
 abbrev pub someNotZero : List ℕ → ℕ → ℕ → Bool
 someNotZero s at n = some n (notZero s at)
 
--- "9..15 | zero"
+-- "9..15 | zero", of which "Header byte 9 becomes the model"
 abbrev pub headerZeros : List ℕ → Bool
-headerZeros s = someNotZero s 9 7
+headerZeros s = someNotZero s 10 6
 
 -- "304..507 | zero"
 abbrev pub tailZeros : List ℕ → Bool

@@ -10,9 +10,9 @@ ghost use Rattle.edition.specs.Limits.{one, two, blockLength, testLength};
 ghost use Rattle.zero_bytes.specs.ZeroBytes.{someNotZero, recordZeros, laterZeros, bytesNotZero};
 
 // Where the zero bytes stand.
-const HEADER: usize = 9;
+const HEADER: usize = 10;
 
-const HEADER_ZEROS: usize = 7;
+const HEADER_ZEROS: usize = 6;
 
 const TAIL: usize = 304;
 

@@ -114,7 +114,7 @@ const RANGES_BREACHES: &[&[Change]] = &[
 ];
 
 const ZEROS_BREACHES: &[&[Change]] = &[
-    &[(9, 1)],
+    &[(10, 1)],
     &[(12, 200)],
     &[(15, 255)],
     &[(304, 1)],

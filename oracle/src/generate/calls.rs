@@ -8,7 +8,7 @@ use crate::layout::{MAX_HARTS, MOST_EVENTS};
 use crate::rules::steady_rules;
 use crate::search::{Answer, Engine, MAX_ALLOWANCE};
 use crate::stream::{push_frame, push_list};
-use crate::table::Table;
+use crate::table::{Model, Table};
 use crate::walks::{Given, Walk, PRUNED_SEARCH, PRUNED_WALK, SEARCH, WALK};
 
 /// Memory events so few that lists of prefixes are short.
@@ -84,10 +84,15 @@ pub const WAYS: [Way; 7] = [
 
 /// A table with a short list of prefixes, and often with witnesses.
 pub fn small_table(prng: &mut Prng) -> Table {
+    small_table_in(Model::Rvwmo, prng)
+}
+
+/// The same in a model.
+pub fn small_table_in(model: Model, prng: &mut Prng) -> Table {
     let harts = 1 + prng.below(MAX_HARTS);
     let locations = 1 + prng.below(3);
     let events = 1 + prng.below(FEW_EVENTS);
-    let mut table = random_table(prng, harts, locations, events);
+    let mut table = random_table(prng, harts, locations, events).in_model(model);
     if !prng.one_in(3) {
         if let Some(order) = lawful_order(prng, &table) {
             state_outcome(&mut table, &order);

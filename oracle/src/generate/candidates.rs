@@ -5,6 +5,7 @@ use super::cases::*;
 use super::chains::chain_cases;
 use super::decided::decided;
 use super::edition_two::refused_by_each_line;
+use super::models::tso_cases;
 use super::operations::{mixed_operation_cases, operation_cases};
 use super::orders::*;
 use super::prng::Prng;
@@ -24,6 +25,7 @@ use std::collections::BTreeSet;
 const SEED: u64 = 2;
 const RANDOM_TABLES: usize = 160;
 const WIDE_TABLES: usize = 30;
+const TSO_TABLES: usize = 40;
 const ROUNDS: usize = 3;
 /// Pairs of a random table that are asked for with one returned list.
 const SOME_PAIRS: usize = 4;
@@ -70,7 +72,7 @@ pub fn make_candidates() -> Calls {
     rules_of_c5(&mut calls);
     load_values(&mut calls);
     fences(&mut calls);
-    annotations(&mut calls);
+    annotations(&mut calls, Model::Rvwmo);
     for (name, test) in cases() {
         every_order(&mut calls, name, &test);
         every_pair(&mut calls, name, &test);
@@ -98,8 +100,21 @@ pub fn make_candidates() -> Calls {
         both_entries(&mut calls, case.name, &case.table, &case.order);
     }
     candidates_in_two(&mut calls, &mut prng);
+    candidates_in_model_1(&mut calls, &mut prng);
     unused_locations(&mut calls);
     calls
+}
+
+fn candidates_in_model_1(calls: &mut Calls, prng: &mut Prng) {
+    annotations(calls, Model::Rvtso);
+    for (name, test) in tso_cases() {
+        every_order(calls, name, &test);
+        every_pair(calls, name, &test);
+    }
+    for _ in 0..TSO_TABLES {
+        let table = contended_table(prng).in_model(Model::Rvtso);
+        random_calls(calls, prng, table);
+    }
 }
 
 /// Line 21 with lists that are right, and with breaches of the lines 12, 13, 14 and 16, which come
@@ -338,7 +353,7 @@ fn fences(calls: &mut Calls) {
 }
 
 /// Rules 5, 6 and 7: every lawful flags on two accesses, in the order the other way round.
-fn annotations(calls: &mut Calls) {
+fn annotations(calls: &mut Calls, model: Model) {
     let pairs = [
         (load(0, X, 0), store(0, Y, 1)),
         (store(0, X, 1), load(0, Y, 0)),
@@ -349,7 +364,7 @@ fn annotations(calls: &mut Calls) {
         for flags in 0..=ALL_FLAGS {
             for other in 0..=ALL_FLAGS {
                 let events = vec![first.clone().flags(flags), second.clone().flags(other)];
-                let test = table(events);
+                let test = table(events).in_model(model);
                 if read(&encode(&test)).is_ok() {
                     let returned = returned_list(&test, &[1, 0]);
                     single(calls, "rules-5-6-7", &test, &returned, &[1, 0]);

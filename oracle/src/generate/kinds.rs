@@ -9,12 +9,12 @@ use crate::litmus::*;
 use crate::table::{Event, Kind, Table, ALL_FLAGS};
 
 /// The block of C10, which has one event and one location, with one bit turned over in each byte
-/// behind the header's numbers. All these bytes are named zero, but for the initial value of
+/// from the model on. All these bytes are named zero, but for the model, the initial value of
 /// location 0 and record 0.
 pub fn each_byte() -> Vec<Vec<u8>> {
     let block = encode(&c10());
     let turned = |at: usize| changed(&c10(), &[(at, block[at] ^ 1 << (at % 8))]);
-    (HEADER_ZEROS.start..CHECK_AT).map(turned).collect()
+    (MODEL_AT..CHECK_AT).map(turned).collect()
 }
 
 /// Hart, location and flags of each kind, just out of range and as large as a byte can be. The
@@ -85,12 +85,13 @@ mod tests {
     #[test]
     fn each_byte_named_zero_refuses_by_6() {
         let is_named = |at: &usize| {
-            !(initial_at(0)..initial_at(1)).contains(at)
+            *at != MODEL_AT
+                && !(initial_at(0)..initial_at(1)).contains(at)
                 && !(record_at(0)..record_at(1)).contains(at)
         };
-        let bytes = (HEADER_ZEROS.start..CHECK_AT).zip(each_byte());
+        let bytes = (MODEL_AT..CHECK_AT).zip(each_byte());
         let named: Vec<_> = bytes.filter(|(at, _)| is_named(at)).collect();
-        assert_eq!(named.len(), 481);
+        assert_eq!(named.len(), 480);
         for (at, block) in named {
             let refused = Refusal { line: Line::Zeros, record: None };
             assert_eq!(read(&block), Err(refused), "byte {at}");

@@ -4,6 +4,7 @@ use super::breaches::{base_block, breaches, Breach};
 use super::damage::{changed, operation_byte};
 use super::edition_two::readings_in_two;
 use super::kinds::{control_clauses, each_byte, fields_out_of_range};
+use super::models::model_readings;
 use super::operations::operation_edges;
 use super::prng::Prng;
 use super::random::{any_table, random_table};
@@ -49,6 +50,7 @@ pub fn make_readings() -> Vec<u8> {
         fields_out_of_range(),
         control_clauses().iter().map(encode).collect(),
         readings_in_two(),
+        model_readings(&mut prng),
         unused_locations(),
     ];
     let mut stream = Vec::new();

@@ -71,6 +71,7 @@ fn suites() -> Vec<Vec<u8>> {
     let whole = refused_by_each_line().into_iter().filter(|test| test.len() == LONGEST_TEST);
     suites.extend(whole.map(|test| [test, base_block()].concat()));
     suites.extend(refused_by_one_block().map(|test| [test, base_block()].concat()));
+    suites.extend([1, 2, 255].map(|model| [changed(MODEL_AT, model), base_block()].concat()));
     suites
 }
 
@@ -82,13 +83,15 @@ fn refused_by_one_block() -> [Vec<u8>; 5] {
         test[BLOCK_LENGTH * block + CHECK_AT] ^= 1;
         test
     };
-    let changed = |at: usize, value: u8| {
-        let mut test = wide();
-        test[at] = value;
-        seal(&mut test);
-        test
-    };
     [wrong_check(0), wrong_check(1), wrong_check(2), changed(0, 0), changed(EDITION_AT, 3)]
+}
+
+/// A good test of edition 2 with one byte changed, and right checks.
+fn changed(at: usize, value: u8) -> Vec<u8> {
+    let mut test = wide();
+    test[at] = value;
+    seal(&mut test);
+    test
 }
 
 /// Nothing, and a byte less, none and a byte more than each number of blocks.

@@ -6,6 +6,7 @@ use super::cases::atomicity_place_cases;
 use super::chains::{chain_cases, chained_table};
 use super::decided::decided_cases;
 use super::edition_two::refused_by_each_line;
+use super::models::tso_tests;
 use super::operations::{mixed_operation_cases, operation_cases};
 use super::orders::{bytes, linear_extension, state_outcome};
 use super::prng::Prng;
@@ -17,7 +18,7 @@ use crate::layout::*;
 use crate::litmus::{self, *};
 use crate::search::{Engine, MAX_ALLOWANCE};
 use crate::settled::is_spoiled;
-use crate::table::Table;
+use crate::table::{Model, Table};
 use crate::walks::Given;
 
 const SEED: u64 = 3;
@@ -32,6 +33,9 @@ const WIDE_TABLES: usize = 10;
 /// Random tables and chains that the second engine walks, each in one way.
 const PRUNED_TABLES: usize = 160;
 const PRUNED_CHAINS: usize = 24;
+/// Random tables and chains of model 1 that each engine walks, each in one way.
+const TSO_TABLES: usize = 140;
+const TSO_CHAINS: usize = 14;
 
 pub fn make_walks() -> Vec<u8> {
     let prng = &mut Prng::new(SEED);
@@ -62,6 +66,7 @@ pub fn make_walks() -> Vec<u8> {
     walks_of_the_second_engine(&mut calls, prng);
     for engine in Engine::ALL {
         calls.given = Given::Block(engine);
+        walks_in_model_1(&mut calls, prng);
         unused_locations(&mut calls, prng);
     }
     calls.stream
@@ -130,6 +135,21 @@ fn walks_of_the_second_engine(calls: &mut Calls, prng: &mut Prng) {
     refused_tables(calls, prng);
     for test in refused_by_each_line() {
         refused_walk(calls, prng, test, MOST_EVENTS);
+    }
+}
+
+fn walks_in_model_1(calls: &mut Calls, prng: &mut Prng) {
+    for (_, test) in tso_tests() {
+        lend_and(walk_by_witnesses, calls, prng, &test);
+        lend_and(edges_of_the_first_answer, calls, prng, &test);
+    }
+    for number in 0..TSO_TABLES {
+        let table = small_table_in(Model::Rvtso, prng);
+        lend_and(WAYS[number % WAYS.len()], calls, prng, &table);
+    }
+    for number in 0..TSO_CHAINS {
+        let table = chained_table(prng).in_model(Model::Rvtso);
+        lend_and(WAYS[number % WAYS.len()], calls, prng, &table);
     }
 }
 

@@ -3,6 +3,7 @@
 
 use super::breaches::{base, base_block, breaches};
 use super::kinds::{control_clauses, fields_out_of_range};
+use super::models::model_tables;
 use super::operations::operation_edges;
 use super::prng::Prng;
 use super::random::any_table;
@@ -47,6 +48,9 @@ pub fn make_writes() -> Vec<u8> {
     }
     for table in [raw(&base()), thirty_events()[0].clone()] {
         push_call(&mut stream, &table, LONGEST_TEST);
+    }
+    for table in model_tables(&mut prng) {
+        push_call(&mut stream, &table, BLOCK_LENGTH);
     }
     unused_locations(&mut stream);
     stream

@@ -18,6 +18,9 @@ byte-at-requires-3 c κs = search needs
 byte-at-requires-4 : tie.Need-byte-at-requires-4
 byte-at-requires-4 c κs = search needs
 
+byte-at-requires-5 : tie.Need-byte-at-requires-5
+byte-at-requires-5 c κs = search needs
+
 values-requires : tie.Need-values-requires
 values-requires c κs = search needs
 
@@ -27,8 +30,9 @@ values-requires-2 c κs = search needs
 returns : tie.Need-returns
 unfolding headed initialOf finalOf
 returns c =
-    table-same _ _ (c .before .before .before .before .before .byte-at .ensures) (c .before .before .before .before .byte-at2 .ensures) (c .before .before .before .byte-at3 .ensures) (c .before .before .byte-at4 .ensures) (c .before .values .ensures)
-    refl (c .values2 .ensures)
+    table-same _ _ (c .before .before .before .before .before .before .byte-at .ensures)
+    (c .before .before .before .before .before .byte-at2 .ensures) (c .before .before .before .before .byte-at3 .ensures)
+    (c .before .before .before .byte-at4 .ensures) (c .before .before .byte-at5 .ensures) (c .before .values .ensures) refl (c .values2 .ensures)
 
 pub headed-spec : {M : Type 1} → statement M
 headed-spec =
@@ -38,6 +42,7 @@ headed-spec =
     byte-at-requires-2
     byte-at-requires-3
     byte-at-requires-4
+    byte-at-requires-5
     values-requires
     values-requires-2
     returns)

@@ -63,26 +63,26 @@ hart-fits : tie.Need-array-read-harts Inv-loop μ-loop
 unfolding hart event
 hart-fits c =
     let e = c .before .before .before .before .before .before .before .before in
-    let d = e .before .before .before .before .before .before .before .before in
+    let d = e .before .before .before .before .before .before .before .before .before in
     d .before .before .pre .each-hart (d .before .loop .k) (d .loop-test .taken)
 
 location-fits : tie.Need-array-read-locations Inv-loop μ-loop
 unfolding location event
 location-fits c =
     let e = c .before .before .before .before .before .before .before .before in
-    let d = e .before .before .before .before .before .before .before .before .before in
+    let d = e .before .before .before .before .before .before .before .before .before .before in
     d .before .before .pre .each-location (d .before .loop .k) (d .loop-test .taken)
 
 add-fits : tie.Need-add-k Inv-loop μ-loop
 add-fits c =
     let e = c .before .before .before .before .before .before .before .before in
-    let d = e .before .before .before .before .before .before .before .before .before in
+    let d = e .before .before .before .before .before .before .before .before .before .before in
     record { fits = omega (arith, d .loop-test .taken, d .before .before .pre .events) }
 
 falls : tie.Need-loop-less Inv-loop μ-loop
 falls c =
     let e = c .before .before .before .before .before .before .before .before in
-    omega (arith, e .before .before .before .before .before .before .before .before .before .loop-test .taken)
+    omega (arith, e .before .before .before .before .before .before .before .before .before .before .loop-test .taken)
 
 loop-again : tie.Need-loop-again Inv-loop μ-loop
 unfolding ofEvents
@@ -91,20 +91,27 @@ loop-again c =
     let fifth = sixth .before .before .before in
     let fourth = fifth .before .before in
     let third = fourth .before .before in
-    let second = third .before .before in
+    let notes = third .before .before in
+    let second = notes .before in
     let first = second .before .before in
     let d = first .before .before .before .before in
     let t = d .before .args .t1 in
     let k = d .loop .k in
     let v = d .loop .inv in
     let small = d .before .pre in
-    let l : k < t .count = omega arith in
+    let l : k < t .count = first .before .before .before .loop-test .taken in
     record {
       readers-so-far = gather-more _ _ _ _ _ (v .readers-so-far) l (rw (first .before .reads .ensures) at (first .one-if .ensures));
       writers-so-far = gather-more _ _ _ _ _ (v .writers-so-far) l (rw (second .before .writes .ensures) at (second .one-if2 .ensures));
-      acquires-so-far = gather-more _ _ _ _ _ (v .acquires-so-far) l (rw (third .before .acquires .ensures) at (third .one-if3 .ensures));
-      releases-so-far = gather-more _ _ _ _ _ (v .releases-so-far) l (rw (fourth .before .releases .ensures) at (fourth .one-if4 .ensures));
-      rcscs-so-far = gather-more _ _ _ _ _ (v .rcscs-so-far) l (rw (fifth .before .rcsc .ensures) at (fifth .one-if5 .ensures));
+      acquires-so-far =
+          gather-more _ _ _ _ _ (v .acquires-so-far) l
+          (rw (third .before .acquires .ensures, notes .annotations .ensures) at (third .one-if3 .ensures));
+      releases-so-far =
+          gather-more _ _ _ _ _ (v .releases-so-far) l
+          (rw (fourth .before .releases .ensures, notes .annotations .ensures) at (fourth .one-if4 .ensures));
+      rcscs-so-far =
+          gather-more _ _ _ _ _ (v .rcscs-so-far) l
+          (rw (fifth .before .rcsc .ensures, notes .annotations .ensures) at (fifth .one-if5 .ensures));
       reserving-so-far = gather-more _ _ _ _ _ (v .reserving-so-far) l (sixth .one-if6 .ensures);
       harts-so-far =
           sort-one (λ e. true) (hart t) _ _ _ _ (v .harts-so-far) l _ (lt-ltb _ _ (small .each-hart k l)) (c .before .before .one .ensures);
@@ -138,6 +145,7 @@ of-table-spec =
     (λ c. search needs)
     (λ c. search needs)
     (λ c. search needs)
+    (λ c κs. search needs)
     (λ c κs. search needs)
     (λ c κs. search needs)
     (λ c κs. search needs)

@@ -31,7 +31,7 @@ unfolding event
 returns-2 c =
     let start = c .before .before .before in
     let v = start .args in
-    let slots : length (v .t1 .events) ≡ 32 = simp length-map at (start .good .0 .1 .1 .1 .1 .1 .1 .1 .0 .1 .0 .1) in
+    let slots : length (v .t1 .events) ≡ 32 = simp length-map at (start .good .0 .1 .1 .1 .1 .1 .1 .1 .1 .0 .1 .0 .1) in
     c .no-event .ensures ∙ sym (List·getD-eq-default (v .t1 .events) _ {n = v .k .0} (omega arith))
 
 pub event-of-spec : {M : Type 1} → statement M

@@ -28,7 +28,7 @@ returns-2 : tie.Need-returns-2
 unfolding initialValue
 returns-2 c =
     let v = c .before .before .args in
-    let slots : length (v .t1 .initial) ≡ 8 = simp length-map at (c .before .before .good .0 .1 .1 .1 .1 .1 .1 .0 .1 .0 .1) in
+    let slots : length (v .t1 .initial) ≡ 8 = simp length-map at (c .before .before .good .0 .1 .1 .1 .1 .1 .1 .1 .0 .1 .0 .1) in
     sym (List·getD-eq-default (v .t1 .initial) _ {n = v .x .0} (omega arith))
 
 pub initial-value-spec : {M : Type 1} → statement M

@@ -46,7 +46,7 @@ loop-again : tie.Need-loop-again Inv-loop μ-loop
 loop-again c =
     let v = c .before .before .before .loop in
     let start = c .before .before .before .before .before .before .before in
-    let slots : length (start .args .t1 .events) ≡ 32 = simp length-map at (start .good .0 .1 .1 .1 .1 .1 .1 .1 .0 .1 .0 .1) in
+    let slots : length (start .args .t1 .events) ≡ 32 = simp length-map at (start .good .0 .1 .1 .1 .1 .1 .1 .1 .1 .0 .1 .0 .1) in
     (omega arith, v .inv .1 ∙ last-skip _ (v .latest) _ (v .i) (omega arith) refl (past-slots _ _ _ _ (omega arith)))
 
 cast-visible : tie.Need-cast-visible Inv-loop μ-loop

@@ -1,3 +1,7 @@
+use Prim.Native.Nat.{ℕ}
+use mathlib.Core.Path.{ap, ap₂, _∙_}
+use mathlib.Core.Bool.{_&&_, _||_}
+use Rattle.table.specs.Annotations.{acquiring, releasing, acquireSc, releaseSc}
 use Rattle.model.specs.Rules.{rule1, rule3, rule5, rule6, rule7, rule9, rule10, rule11}
 use Rattle.table.proofs.EventTests.{ofEvents}
 use Rattle.rules.proofs.RuleLaws.{held}
@@ -22,6 +26,12 @@ mul-y c = search needs
 
 element-copy-out-y : tie.Need-element-copy-out-y
 element-copy-out-y c = search needs
+
+annotations-requires : tie.Need-annotations-requires
+annotations-requires c κs = search needs
+
+annotations-requires-2 : tie.Need-annotations-requires-2
+annotations-requires-2 c κs = search needs
 
 rule1-requires : tie.Need-rule1-requires
 rule1-requires c κs = search needs
@@ -76,8 +86,13 @@ returns c =
     let c1 = c4 .before in
     let c12 = c1 .before in
     let c3 = c12 .before in
-    held _ _ _ _ (c1 .rule1 .ensures) (c3 .before .rule2 .ensures) (c3 .rule3 .ensures) (c4 .rule4 .ensures) (c5 .rule5 .ensures)
-    (c6 .rule6 .ensures) (c7 .rule7 .ensures) (c8 .rule8 .ensures) (c9 .rule9 .ensures) (c10 .rule10 .ensures) (c11 .rule11 .ensures)
+    let c2 = c3 .before in
+    let of-a = c2 .before .before .annotations .ensures in
+    let of-b = c2 .before .annotations2 .ensures in
+    held _ _ _ _ (c1 .rule1 .ensures) (c2 .rule2 .ensures) (c3 .rule3 .ensures) (c4 .rule4 .ensures)
+    (c5 .rule5 .ensures ∙ ap acquiring of-a) (c6 .rule6 .ensures ∙ ap releasing of-b)
+    (c7 .rule7 .ensures ∙ ap₂ (λ (m n : ℕ). (acquireSc m || releaseSc m) && (acquireSc n || releaseSc n)) of-a of-b)
+    (c8 .rule8 .ensures) (c9 .rule9 .ensures) (c10 .rule10 .ensures) (c11 .rule11 .ensures)
     (c12 .rule12 .ensures) (c .rule13 .ensures)
 
 pub rules-spec : {M : Type 1} → statement M
@@ -90,6 +105,8 @@ rules-spec =
     cast-y
     mul-y
     element-copy-out-y
+    annotations-requires
+    annotations-requires-2
     rule2-requires
     rule3-requires
     rule12-requires

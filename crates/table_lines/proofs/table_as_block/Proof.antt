@@ -15,7 +15,7 @@ abbrev μ-loop : tie.MeasureT-loop
 μ-loop t events₀ k₀ events k = t .count - k
 
 loop-holds : tie.Need-loop-holds Inv-loop μ-loop
-loop-holds c = (omega arith, turn-start _ (simp length-map at (c .before .good .0 .1 .1 .1 .1 .1 .1 .1 .0 .1 .0 .1)))
+loop-holds c = (omega arith, turn-start _ (simp length-map at (c .before .good .0 .1 .1 .1 .1 .1 .1 .1 .1 .0 .1 .0 .1)))
 
 cast-as-block : tie.Need-cast-as-block Inv-loop μ-loop
 cast-as-block c = search needs
@@ -59,6 +59,7 @@ returns c =
       locations = refl;
       count = refl;
       stated = refl;
+      model = refl;
       initial = refl;
       finals = refl;
       events = turn-end _ (v .k) (v .events) (v .inv .1) (omega arith);

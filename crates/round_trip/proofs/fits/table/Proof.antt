@@ -15,6 +15,9 @@ byte-requires-3 c κs = search needs
 byte-requires-4 : tie.Need-byte-requires-4
 byte-requires-4 c κs = search needs
 
+byte-requires-5 : tie.Need-byte-requires-5
+byte-requires-5 c κs = search needs
+
 values-requires : tie.Need-values-requires
 values-requires c κs = search needs
 
@@ -36,6 +39,7 @@ table-spec =
     byte-requires-2
     byte-requires-3
     byte-requires-4
+    byte-requires-5
     values-requires
     events-requires
     values-requires-2

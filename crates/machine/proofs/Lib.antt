@@ -1,0 +1,10 @@
+pub mod TsoLaws
+pub mod PairLaws
+pub mod OrderLaws
+pub mod StateLaws
+pub mod IssueLaws
+pub mod StepLaws
+pub mod RunLaws
+pub mod MachineLaws
+pub mod BufferLaws
+pub mod WorkedRuns

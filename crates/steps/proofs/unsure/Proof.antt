@@ -1,0 +1,24 @@
+use mathlib.Core.Path.{sym}
+use Rattle.table.proofs.EventTests.{ofEvents}
+use Rattle.steps.proofs.BufferMasks.{unsure-is}
+use borrow.Author.Needs.{needs}
+use Rattle.steps.proofs.unsure.Statement.{statement}
+use Rattle.steps.proofs.unsure.Tie as tie
+
+cast-z : tie.Need-cast-z
+cast-z c = search needs
+
+mul-z : tie.Need-mul-z
+mul-z c = search needs
+
+element-copy-out-z : tie.Need-element-copy-out-z
+element-copy-out-z c = search needs
+
+returns : tie.Need-returns
+unfolding ofEvents
+returns c s q =
+    let d = c .before .before .before .before .before in
+    sym (unsure-is _ s _ q (d .pre .0 .tso) (d .args .w .0) (d .pre .1))
+
+pub unsure-spec : {M : Type 1} → statement M
+unsure-spec = tie.close (tie.spec cast-z mul-z element-copy-out-z returns)
