@@ -5,13 +5,25 @@ use crate::error::{quoted, STANDARD_INPUT};
 use crate::help;
 use crate::litmus::Expected;
 use std::ffi::OsString;
+use std::fmt;
 
 /// A subcommand.
 #[derive(Clone, Copy, PartialEq, Eq, Debug)]
 pub enum Subcommand {
     Decide,
     Show,
+    Explain,
     Convert,
+    Step,
+    Report,
+}
+
+/// A memory model.
+#[derive(Clone, Copy, PartialEq, Eq, Debug)]
+pub enum Model {
+    Rvwmo,
+    /// That of the extension Ztso.
+    Rvtso,
 }
 
 /// A form of tests.
@@ -19,6 +31,14 @@ pub enum Subcommand {
 pub enum Form {
     Litmus,
     Block,
+    Text,
+}
+
+/// A form of pictures.
+#[derive(Clone, Copy, PartialEq, Eq, Debug)]
+pub enum Picture {
+    Svg,
+    Dot,
 }
 
 /// What was asked for.
@@ -38,9 +58,11 @@ pub struct Options {
     pub herd: bool,
     pub expect: Option<Expected>,
     pub visit: u64,
+    pub model: Option<Model>,
     pub to: Option<Form>,
     pub all: bool,
     pub output: Option<String>,
+    pub picture: Option<Picture>,
 }
 
 const TRY: &str = "`cogthunder --help` says what there is";
@@ -50,7 +72,10 @@ impl Subcommand {
         match word {
             "decide" => Some(Subcommand::Decide),
             "show" => Some(Subcommand::Show),
+            "explain" => Some(Subcommand::Explain),
             "convert" => Some(Subcommand::Convert),
+            "step" => Some(Subcommand::Step),
+            "report" => Some(Subcommand::Report),
             _ => None,
         }
     }
@@ -59,15 +84,21 @@ impl Subcommand {
         match self {
             Subcommand::Decide => help::DECIDE,
             Subcommand::Show => help::SHOW,
+            Subcommand::Explain => help::EXPLAIN,
             Subcommand::Convert => help::CONVERT,
+            Subcommand::Step => help::STEP,
+            Subcommand::Report => help::REPORT,
         }
     }
 
     fn has(self, option: &str) -> bool {
         match option {
-            "--visit" => self != Subcommand::Convert,
+            "--visit" => !matches!(self, Subcommand::Convert | Subcommand::Step),
+            "--model" => self != Subcommand::Step,
             "-v" | "--verbose" | "--herd" | "--expect" => self == Subcommand::Decide,
-            "--to" | "--all" | "-o" | "--output" => self == Subcommand::Convert,
+            "--svg" | "--dot" => self == Subcommand::Show,
+            "-o" | "--output" => [Subcommand::Convert, Subcommand::Show, Subcommand::Report].contains(&self),
+            "--to" | "--all" => self == Subcommand::Convert,
             _ => false,
         }
     }
@@ -90,9 +121,11 @@ pub fn read(words: impl Iterator<Item = OsString>) -> Result<Request, String> {
         herd: false,
         expect: None,
         visit: MOST_VISITED,
+        model: None,
         to: None,
         all: false,
         output: None,
+        picture: None,
     };
     let mut are_files = false;
     while let Some(word) = words.next().transpose()? {
@@ -122,9 +155,12 @@ impl Options {
             "-v" | "--verbose" => self.verbose = true,
             "--herd" => self.herd = true,
             "--all" => self.all = true,
+            "--svg" => self.picture = Some(Picture::Svg),
+            "--dot" => self.picture = Some(Picture::Dot),
             "-o" | "--output" => self.output = Some(value()?),
             "--visit" => self.visit = count(&value()?)?,
             "--expect" => self.expect = Some(expected(&value()?)?),
+            "--model" => self.model = Some(model(&value()?)?),
             _ => self.to = Some(form(&value()?)?),
         }
         Ok(())
@@ -136,6 +172,16 @@ impl Options {
         }
         if self.subcommand == Subcommand::Convert && self.files.len() > 1 {
             return Err("convert takes one file".to_string());
+        }
+        if self.subcommand == Subcommand::Step && self.files.len() > 1 {
+            return Err("step takes one file; the steps come from standard input".to_string());
+        }
+        if self.subcommand == Subcommand::Step && self.files == [STANDARD_INPUT] {
+            return Err("step reads the steps from standard input, so the test has to be a file".to_string());
+        }
+        let is_one = self.picture.is_some() || self.output.is_some();
+        if self.subcommand == Subcommand::Show && is_one && self.files.len() > 1 {
+            return Err("show takes one file where it writes a picture or to a file".to_string());
         }
         if self.files.iter().filter(|file| *file == STANDARD_INPUT).count() > 1 {
             return Err("standard input can be read only once".to_string());
@@ -156,11 +202,26 @@ fn expected(word: &str) -> Result<Expected, String> {
     }
 }
 
+fn model(word: &str) -> Result<Model, String> {
+    match word {
+        "rvwmo" => Ok(Model::Rvwmo),
+        "rvtso" => Ok(Model::Rvtso),
+        _ => Err(format!("--model takes rvwmo or rvtso, and not {}", quoted(word))),
+    }
+}
+
+impl fmt::Display for Model {
+    fn fmt(&self, f: &mut fmt::Formatter) -> fmt::Result {
+        write!(f, "{}", if *self == Model::Rvwmo { "RVWMO" } else { "RVTSO" })
+    }
+}
+
 fn form(word: &str) -> Result<Form, String> {
     match word {
         "litmus" => Ok(Form::Litmus),
         "block" => Ok(Form::Block),
-        _ => Err(format!("--to takes block or litmus, and not {}", quoted(word))),
+        "text" => Ok(Form::Text),
+        _ => Err(format!("--to takes block, litmus or text, and not {}", quoted(word))),
     }
 }
 
@@ -180,14 +241,20 @@ mod tests {
         assert_eq!(options.files, ["a.litmus", "-", "-b"]);
         assert!(options.verbose && !options.herd);
         assert_eq!((options.expect, options.visit), (Some(Expected::Forbidden), 5));
+        assert_eq!(options.model, None);
+        for (word, model) in [("rvwmo", Model::Rvwmo), ("rvtso", Model::Rvtso)] {
+            let Ok(Request::Run(options)) = read_words(&format!("show --model {word} x")) else { panic!("a request") };
+            assert_eq!(options.model, Some(model));
+        }
     }
 
     #[test]
     fn each_subcommand_has_its_help() {
         assert_eq!(read_words("--help"), Ok(Request::Help(help::WHOLE)));
-        for (word, text) in [("decide", help::DECIDE), ("show", help::SHOW), ("convert", help::CONVERT)] {
+        let texts = [help::DECIDE, help::SHOW, help::EXPLAIN, help::CONVERT, help::STEP, help::REPORT];
+        for (word, text) in ["decide", "show", "explain", "convert", "step", "report"].into_iter().zip(texts) {
             assert_eq!(read_words(&format!("{word} x --help")), Ok(Request::Help(text)));
-            assert!(text.contains(&format!("example: cogthunder {word}")));
+            assert!(text.contains("example: ") && text.contains(&format!("cogthunder {word} ")));
         }
     }
 
@@ -202,6 +269,11 @@ mod tests {
         assert_eq!(sentence("decide x --expect"), "a word is missing behind --expect");
         assert_eq!(sentence("decide - -"), "standard input can be read only once");
         assert_eq!(sentence("convert x y"), "convert takes one file");
-        assert_eq!(sentence("convert --to text x"), "--to takes block or litmus, and not `text`");
+        assert_eq!(sentence("show --svg x y"), "show takes one file where it writes a picture or to a file");
+        assert_eq!(sentence("convert --to page x"), "--to takes block, litmus or text, and not `page`");
+        assert_eq!(sentence("decide --model tso x"), "--model takes rvwmo or rvtso, and not `tso`");
+        assert!(sentence("step --model rvtso x").starts_with("there is no option `--model` here"));
+        assert_eq!(sentence("step x y"), "step takes one file; the steps come from standard input");
+        assert_eq!(sentence("step -"), "step reads the steps from standard input, so the test has to be a file");
     }
 }

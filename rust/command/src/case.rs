@@ -1,9 +1,10 @@
 //! A table with the names and the instructions that it stands for.
 
+use crate::arguments::Model;
 use crate::choices::Choice;
 use crate::error::Error;
 use crate::litmus::{AccessKind, AmoOp, Test};
-use crate::record::{KINDS, MOST_EVENTS};
+use crate::record::{AMOS, KINDS, MOST_EVENTS};
 use crate::run::{Event, EventKind};
 use cogthunder::{Accesses, Operation, Table};
 
@@ -15,6 +16,8 @@ pub struct Case {
     pub locations: Vec<String>,
     /// The instruction of each event.
     pub texts: Vec<String>,
+    /// Whether the values read aren't stated, nor what AMOs make of them.
+    pub is_open: bool,
 }
 
 /// Names for the locations of a table that comes without.
@@ -24,9 +27,8 @@ impl Case {
     /// A table that comes without names.
     pub fn of_table(table: Table) -> Case {
         let locations = LOCATIONS[..table.locations.into()].iter().map(|name| name.to_string()).collect();
-        let texts =
-            table.events[..table.count.into()].iter().map(|event| KINDS[usize::from(event.kind)].to_string()).collect();
-        Case { table, locations, texts }
+        let texts = table.events[..table.count.into()].iter().map(words).collect();
+        Case { table, locations, texts, is_open: false }
     }
 
     /// The table of a choice. Only locations that are accessed or stated are in it.
@@ -34,6 +36,9 @@ impl Case {
         let used = used_locations(test, choice);
         let number = |location: usize| used.iter().position(|&other| other == location).expect("it is used") as u8;
         let mut table = Table::new(test.harts.len() as u8, used.len() as u8);
+        if test.model == Model::Rvtso {
+            table.tso();
+        }
         let mut texts = Vec::new();
         for (hart, run) in choice.runs.iter().enumerate() {
             let first = texts.len() as u32;
@@ -51,7 +56,16 @@ impl Case {
         for &(location, value) in &choice.finals {
             table.final_value(number(location), value);
         }
-        Ok(Case { table, locations: used.iter().map(|&location| test.locations[location].clone()).collect(), texts })
+        let locations = used.iter().map(|&location| test.locations[location].clone()).collect();
+        Ok(Case { table, locations, texts, is_open: false })
+    }
+}
+
+/// The kind of an event that comes without an instruction, and the operation of an AMO.
+fn words(event: &cogthunder::Event) -> String {
+    match event.operation {
+        0 => KINDS[usize::from(event.kind)].to_string(),
+        operation => format!("{} {}", AMOS[usize::from(operation)], event.operand),
     }
 }
 

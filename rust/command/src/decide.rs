@@ -11,7 +11,7 @@ use crate::{herd, picture, Status};
 
 /// What the summary counts.
 #[derive(Default)]
-struct Tally {
+pub struct Tally {
     allowed: usize,
     forbidden: usize,
     undecided: usize,
@@ -26,7 +26,7 @@ struct Tally {
 pub fn run(options: &Options, out: &mut Output) -> Result<Status, String> {
     let (mut tally, mut progress) = (Tally::default(), Progress::new());
     for file in &options.files {
-        match tests(file) {
+        match tests(file, options.model) {
             Err(error) => tally.unread(file, &error),
             Ok(tests) => {
                 for test in tests {
@@ -100,12 +100,12 @@ fn notes(test: &Test, decision: &Decision) -> Vec<&'static str> {
 }
 
 impl Tally {
-    fn unread(&mut self, file: &str, error: &Error) {
+    pub fn unread(&mut self, file: &str, error: &Error) {
         self.unread += 1;
         complain(&error.of_file(file));
     }
 
-    fn count(&mut self, verdict: Verdict, expected: Option<Expected>) {
+    pub fn count(&mut self, verdict: Verdict, expected: Option<Expected>) {
         match verdict {
             Verdict::Allowed => self.allowed += 1,
             Verdict::Forbidden => self.forbidden += 1,
@@ -117,7 +117,7 @@ impl Tally {
         }
     }
 
-    fn words(&self) -> String {
+    pub fn words(&self) -> String {
         let tests = self.allowed + self.forbidden + self.undecided;
         let noun = if tests == 1 { "test" } else { "tests" };
         let mut words = format!("{tests} {noun}: {} allowed, {} forbidden", self.allowed, self.forbidden);
@@ -133,7 +133,7 @@ impl Tally {
         words
     }
 
-    fn status(&self) -> Status {
+    pub fn status(&self) -> Status {
         match self {
             Tally { unread: 1.., .. } => Status::Unusable,
             Tally { unexpected: 1.., .. } => Status::Unexpected,

@@ -5,6 +5,7 @@ use crate::choices::Choices;
 use crate::error::Error;
 use crate::litmus::{Expected, Test};
 use crate::progress::Progress;
+use crate::text::Text;
 use cogthunder::{returns, Answer, Refusal, Witnesses, EVENTS};
 
 /// How many prefixes are visited for one test unless another bound is given.
@@ -95,40 +96,57 @@ impl<'p> Decider<'p> {
         Ok(self.decision)
     }
 
+    /// Decides a text, by the library's own search for texts.
+    pub fn text(mut self, text: &Text) -> Result<Decision, Error> {
+        let order = Witnesses::of_text(&text.bytes).map(|walk| self.walk(walk)).map_err(refused)?;
+        if let Some(order) = order {
+            let (case, returned) = text.along(&order).map_err(refused)?;
+            self.found(Witness { case, order, returned });
+        }
+        self.count(text.open());
+        Ok(self.decision)
+    }
+
     fn table(&mut self, case: Case) -> Result<(), Refusal> {
         let test = case.table.test()?;
-        let mut walk = Witnesses::pruned(&test)?;
+        if let Some(order) = self.walk(Witnesses::pruned(&test)?) {
+            let mut returned = [0; EVENTS];
+            returns(&test, &order, &mut returned)?;
+            let returned = returned[..case.texts.len()].to_vec();
+            self.found(Witness { case: case.clone(), order, returned });
+        }
+        self.count(case);
+        Ok(())
+    }
+
+    /// Goes on to the first witness, or to the end or the bound.
+    fn walk(&mut self, mut walk: Witnesses) -> Option<Vec<u8>> {
         let before = self.decision.visited;
         loop {
             let left = self.most - self.decision.visited;
             if left == 0 {
                 self.decision.verdict = Verdict::Undecided;
-                break;
+                return None;
             }
             walk = walk.allowance(left.min(ALLOWANCE));
             let answer = walk.step();
             self.decision.visited = before + walk.visited();
             self.progress.show(self.decision.visited);
             match answer {
-                Answer::Found { .. } => {
-                    self.found(&case, &test, walk.start())?;
-                    break;
-                }
-                Answer::NoneLeft { .. } => break,
+                Answer::Found { .. } => return Some(walk.start().to_vec()),
+                Answer::NoneLeft { .. } => return None,
                 Answer::Spent { .. } => {}
             }
         }
-        self.decision.tables += 1;
-        self.decision.first.get_or_insert(case);
-        Ok(())
     }
 
-    fn found(&mut self, case: &Case, test: &[u8], order: &[u8]) -> Result<(), Refusal> {
-        let mut returned = [0; EVENTS];
-        returns(test, order, &mut returned)?;
-        let returned = returned[..case.texts.len()].to_vec();
+    fn count(&mut self, case: Case) {
+        self.decision.tables += 1;
+        self.decision.first.get_or_insert(case);
+    }
+
+    fn found(&mut self, witness: Witness) {
         self.decision.verdict = Verdict::Allowed;
-        self.decision.witness = Some(Witness { case: case.clone(), order: order.to_vec(), returned });
-        Ok(())
+        self.decision.witness = Some(witness);
     }
 }

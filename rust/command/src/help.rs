@@ -2,17 +2,20 @@
 
 /// Of the whole program.
 pub const WHOLE: &str = "\
-cogthunder: litmus tests for the RISC-V memory model (RVWMO), decided by a proved library
+cogthunder: litmus tests for the RISC-V memory models, RVWMO and RVTSO, decided by a proved library
 
 usage: cogthunder SUBCOMMAND [OPTIONS] FILE..
 
   decide FILE..    is the outcome allowed or forbidden? A line for each test
   show FILE..      the test as it was understood, in columns, and a witness
-  convert FILE     from a litmus test to a block and back
+  explain FILE..   why it is allowed or forbidden: a witness in words, or what each way breaks
+  convert FILE     between litmus tests, blocks and texts
+  step FILE        a test on a machine with store buffers, step by step (RVTSO)
+  report FILE..    one page about all tests: verdicts, pictures and reasons
 
 A FILE is a litmus test (RISC-V instructions in columns, as herd7 reads them), a block of this
-library, or many blocks one behind the other; what it holds is seen from its contents, and `-` is
-standard input. `cogthunder SUBCOMMAND --help` says more.
+library, many blocks one behind the other, or a test as a text of numbers (docs/FORMAT.md); what
+it holds is seen from its contents, and `-` is standard input. `cogthunder SUBCOMMAND --help` says more.
 
 Exit status: 0; 1 if a verdict isn't the expected one; 2 if something can't be read or written.
 
@@ -30,6 +33,8 @@ Sometimes, Always or Allowed.
 
   -v, --verbose       the first witness too: the order, and what each load returns from
   --expect VERDICT    allowed or forbidden: what each test must be, whatever its file says
+  --model MODEL       rvwmo or rvtso: the model of litmus tests (rvwmo); a block states its own, and
+                      must state this one; texts are of RVWMO, as is what a file expects
   --herd              each test in the form of herd7's log; witnesses are counted by states
   --visit N           give up after N prefixes (100000000): the test is then undecided
 
@@ -41,29 +46,98 @@ example: cogthunder decide -v samples/litmus/MP.litmus
 
 /// Of `show`.
 pub const SHOW: &str = "\
-usage: cogthunder show [--visit N] FILE..
+usage: cogthunder show [OPTIONS] FILE..
 
 Prints the table that the library is asked about: for each hart its events with their numbers,
 instructions, locations and values, annotations, and the events that their address, data or
 control depends on. For an allowed outcome also the first order that gives it, with what each
 load returns from. Where several choices of values meet the condition, one table is shown.
 
+  --svg               a picture: for an allowed outcome the edges of that order, for a forbidden
+                      one the longest chain that `explain` tells
+  --dot               the same for graphviz
+  -o, --output OUT    a file to write, in the place of standard output
+  --model MODEL       rvwmo or rvtso: the model of litmus tests (rvwmo), and what a block must state
   --visit N           give up after N prefixes (100000000): the test is then undecided
 
 example: cogthunder show samples/litmus/PPOCA.litmus
+         cogthunder show --svg samples/litmus/PPOCA.litmus -o PPOCA.svg
+";
+
+/// Of `explain`.
+pub const EXPLAIN: &str = "\
+usage: cogthunder explain [OPTIONS] FILE..
+
+Says why. For an allowed outcome: the first order that gives it, in words, and the events that it
+has the other way round than program order. For a forbidden one, for each way in which the loads
+could get their values and the writes of a location be ordered: a shortest chain of events that
+has to come before itself, or the LR and SC that another write parts. Ways that share a chain are
+told together; of more than 64 ways only their number is told. Each step of a chain has its reason:
+
+  ppo    preserved program order, with the rules as the proved library names them
+  rf     a read returns from a write that isn't an earlier one of its own hart
+  fr     a read returns from a write, and another write overwrites that
+  co     the order of the writes of a location
+  po     a read sees the earlier writes of its own hart
+
+  --model MODEL       rvwmo or rvtso: the model of litmus tests (rvwmo), and what a block must state
+  --visit N           give up after N prefixes (100000000): the test is then undecided
+
+example: cogthunder explain samples/litmus/MP+fence.rw.rws.litmus
 ";
 
 /// Of `convert`.
 pub const CONVERT: &str = "\
-usage: cogthunder convert [--to FORM] [--all] [-o OUT] FILE
+usage: cogthunder convert [OPTIONS] FILE
 
-Writes a litmus test as a block of 512 bytes (or three, if it has more than 16 events), or a block
-as a litmus test. A block states every value that is read, so the condition has to leave one
-choice of them.
+Writes a litmus test or a text as a block of 512 bytes (or three, if it has more than 16 events),
+or a block as a litmus test. A block states every value that is read, so the condition has to
+leave one choice of them.
 
-  --to FORM           block or litmus; without it, the form that FILE doesn't have
+  --to FORM           block, litmus or text; without it, a block becomes a litmus test, and what
+                      isn't one becomes a block
   --all               a block for each choice of values that meets the condition
+  --model MODEL       rvwmo or rvtso: the model that the block of a litmus test states (rvwmo). Litmus
+                      tests and texts can't state one, so only tests of RVWMO become those
   -o, --output OUT    a file to write, in the place of standard output
 
 example: cogthunder convert samples/litmus/MP.litmus -o MP.block
+";
+
+/// Of `step`.
+pub const STEP: &str = "\
+usage: cogthunder step FILE
+
+Takes a litmus test, or a block that states RVTSO, through a machine of single steps: a hart issues
+its next event, or drains its oldest buffered store to memory. Stores and SCs wait in the hart's
+buffer; loads, LRs and AMOs read when they are issued. The proved library says which steps there are.
+Where several choices of values meet the condition of a litmus test, its first table is taken.
+
+Each line of standard input is read word by word:
+
+  0 1 2 3             that hart issues its next event
+  4 5 6 7             hart 0, 1, 2 or 3 drains its oldest buffered store
+  undo                takes the last step back
+  quit                ends, as the end of the input does
+
+Behind each line stand memory, the buffers, the order of the drains, loads, LRs and AMOs so far, and
+the steps that can be taken now; at the end of a run also what the library says of its outcome.
+
+example: echo 0 0 4 | cogthunder step samples/litmus/SB.litmus
+";
+
+/// Of `report`.
+pub const REPORT: &str = "\
+usage: cogthunder report [OPTIONS] FILE.. -o PAGE.html
+
+Writes one page that stands alone: a table of all tests with their verdicts, which can be filtered
+by verdict and name, and for each test its columns, its picture, and what `explain` says of it.
+
+  -o, --output OUT    a file to write, in the place of standard output
+  --model MODEL       rvwmo or rvtso: the model of litmus tests (rvwmo), and what a block must state
+  --visit N           give up on a test after N prefixes (100000000): it is then undecided
+
+Exit status as of decide: 1 if a verdict isn't what its file expects, 2 if a file can't be read.
+
+example: cogthunder report samples/litmus/*.litmus -o tests.html
 ";

@@ -17,6 +17,8 @@ pub enum Contents {
     Litmus(String),
     /// One or more blocks.
     Blocks(Vec<u8>),
+    /// A test as a text of numbers.
+    Text(Vec<u8>),
 }
 
 /// Reads a file, or standard input for `-`.
@@ -78,7 +80,7 @@ fn contents(bytes: Vec<u8>) -> Result<Contents, Error> {
         )
     })?;
     if text.starts_with(|c: char| c.is_ascii_digit()) {
-        return Err(Error::at(1, "this looks like a test as a text of numbers, which isn't read yet"));
+        return Ok(Contents::Text(text.into_bytes()));
     }
     Ok(Contents::Litmus(text))
 }
@@ -100,6 +102,6 @@ mod tests {
         assert_eq!(contents(vec![0; 100]).unwrap_err().line, Some(1));
         assert!(contents(vec![b'a'; MOST_TEXT + 1]).is_err());
         assert!(contents(Vec::new()).is_err());
-        assert!(contents(b"1 0 0\n".to_vec()).is_err());
+        assert!(matches!(contents(b"1 0 0\n".to_vec()), Ok(Contents::Text(_))));
     }
 }

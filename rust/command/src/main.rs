@@ -7,20 +7,37 @@ mod choices;
 mod convert;
 mod decide;
 mod decider;
+mod dot;
+mod drawing;
 mod error;
+mod explain;
 mod flow;
+mod graph;
 mod help;
 mod herd;
 mod input;
+mod layout;
 mod litmus;
 mod output;
+mod page;
 mod picture;
 mod progress;
+#[cfg(test)]
+mod random;
+mod reasons;
 mod record;
+mod report;
+mod routes;
 mod run;
 mod show;
 mod source;
+mod step;
+mod svg;
+mod text;
+mod text_condition;
+mod text_written;
 mod value;
+mod ways;
 mod written;
 
 use arguments::{Options, Request, Subcommand};
@@ -54,6 +71,9 @@ fn run(options: &Options, out: &mut Output) -> Result<Status, String> {
     match options.subcommand {
         Subcommand::Decide => decide::run(options, out),
         Subcommand::Show => show::run(options, out),
+        Subcommand::Explain => explain::run(options, out),
         Subcommand::Convert => convert::run(options, out),
+        Subcommand::Step => step::run(options, out),
+        Subcommand::Report => report::run(options, out),
     }
 }

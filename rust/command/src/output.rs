@@ -22,6 +22,14 @@ impl Output {
         self.bytes(text.as_bytes())
     }
 
+    /// Writes bytes to a file, or where none is named to standard output.
+    pub fn to(&mut self, path: Option<&str>, bytes: &[u8]) -> Result<(), String> {
+        match path {
+            None => self.bytes(bytes),
+            Some(path) => std::fs::write(path, bytes).map_err(|error| format!("{path}: {}", io_words(&error))),
+        }
+    }
+
     /// Writes bytes.
     pub fn bytes(&mut self, bytes: &[u8]) -> Result<(), String> {
         let mut to = self.to.lock();

@@ -1,13 +1,28 @@
 //! A table in columns, and a witness as a list, as text.
 
+use crate::arguments::Model;
 use crate::case::Case;
 use crate::decider::Witness;
-use crate::record::{ANNOTATIONS, FENCE, FENCE_TSO, LOAD, LR, SC, STORE};
-use cogthunder::{Event, INITIALLY, NOTHING};
+use crate::record::{reads, writes, ANNOTATIONS, FENCE, FENCE_TSO};
+use cogthunder::{Event, Table, INITIALLY, NOTHING};
 
 /// Whether an event of the table is a fence.
 pub fn is_fence(event: &Event) -> bool {
     matches!(event.kind, FENCE | FENCE_TSO)
+}
+
+/// The model of a table that the library accepts.
+pub fn model_of(table: &Table) -> Model {
+    if table.model == 0 {
+        Model::Rvwmo
+    } else {
+        Model::Rvtso
+    }
+}
+
+/// The line that names the model where it isn't RVWMO.
+pub fn model_line(case: &Case) -> Option<String> {
+    Some(model_of(&case.table)).filter(|&model| model != Model::Rvwmo).map(|model| format!("model {model}"))
 }
 
 /// `fence rw, w`, for the flags of a fence.
@@ -21,19 +36,25 @@ pub fn members(mask: u32) -> Vec<u8> {
     (0..32).filter(|&bit| mask >> bit & 1 == 1).collect()
 }
 
-/// What an event reads and writes, as in `R x=0`; `from` says where a value read is from.
-fn values(case: &Case, event: &Event, from: &str) -> String {
+/// What an event reads and writes, as in `x=0`.
+pub fn values_read_and_written(case: &Case, event: &Event) -> (Option<String>, Option<String>) {
     let name = &case.locations[usize::from(event.location)];
-    let (read, written) = (format!("R {name}={}{from}", event.read), format!("W {name}={}", event.written));
-    match event.kind {
-        LOAD | LR => read,
-        STORE | SC => written,
-        _ => format!("{read}, {written}"),
-    }
+    let value = |value: u16, is_open: bool| if is_open { "?".to_string() } else { value.to_string() };
+    let read = format!("{name}={}", value(event.read, case.is_open));
+    let written = format!("{name}={}", value(event.written, case.is_open && event.operation != 0));
+    (reads(event).then_some(read), writes(event).then_some(written))
+}
+
+/// The same as in `R x=0, W x=1`; `from` says where a value read is from.
+fn values(case: &Case, event: &Event, from: &str) -> String {
+    let (read, written) = values_read_and_written(case, event);
+    let parts =
+        read.map(|read| format!("R {read}{from}")).into_iter().chain(written.map(|written| format!("W {written}")));
+    parts.collect::<Vec<String>>().join(", ")
 }
 
 /// The parts of an event behind its instruction.
-fn details(case: &Case, event: &Event) -> Vec<String> {
+pub fn details(case: &Case, event: &Event) -> Vec<String> {
     if is_fence(event) {
         return Vec::new();
     }
@@ -61,7 +82,7 @@ fn cell(case: &Case, number: usize, width: usize) -> String {
 }
 
 /// The instruction of an event; a block has only the sets of its fences.
-fn instruction(case: &Case, number: usize) -> String {
+pub fn instruction(case: &Case, number: usize) -> String {
     match case.texts[number].as_str() {
         "fence" => fence_words(case.table.events[number].flags),
         text => text.to_string(),

@@ -1,5 +1,7 @@
 //! The numbers in the records of a table.
 
+use cogthunder::{Event, Operation};
+
 /// The kinds of events.
 pub const LOAD: u8 = 1;
 pub const STORE: u8 = 2;
@@ -27,3 +29,22 @@ pub const LATER: u8 = 2;
 
 /// A test has at most as many events.
 pub const MOST_EVENTS: usize = cogthunder::EVENTS;
+
+/// Whether an event reads.
+pub fn reads(event: &Event) -> bool {
+    matches!(event.kind, LOAD | AMO | LR)
+}
+
+/// Whether an event writes.
+pub fn writes(event: &Event) -> bool {
+    matches!(event.kind, STORE | AMO | SC)
+}
+
+/// The AMO instruction of each operation; without one the value written is stated, as `amoswap` does.
+pub const AMOS: [&str; 7] = ["amoswap", "amoadd", "amoand", "amoor", "amoxor", "amomaxu", "amominu"];
+
+/// The operation of an AMO by its number; none for 0.
+pub fn operation(number: u8) -> Option<Operation> {
+    use Operation::{Add, And, Larger, Or, Smaller, Xor};
+    [Add, And, Or, Xor, Larger, Smaller].into_iter().find(|&operation| operation as u8 == number)
+}

@@ -1,21 +1,23 @@
 //! A table as a litmus test: instructions that have its events, annotations and dependencies, and a condition that states its
 //! values.
 
+use crate::arguments::Model;
 use crate::case::Case;
 use crate::error::Error;
-use crate::picture::{fence_words, is_fence, members};
-use crate::record::{ACQUIRE, AMO, FENCE_TSO, LOAD, LR, RCPC, RELEASE, SC, STORE};
+use crate::picture::{fence_words, is_fence, members, model_of};
+use crate::record::{ACQUIRE, AMO, AMOS, FENCE_TSO, LOAD, LR, RCPC, RELEASE, SC, STORE};
+use crate::text_condition::Condition;
 use cogthunder::Event;
 
 /// The first register that is used; those below are for calls and stacks.
 const FIRST_REGISTER: u8 = 5;
 const LAST_REGISTER: u8 = 31;
 
-/// The AMO instruction of each operation, from none.
-const AMOS: [&str; 7] = ["amoswap", "amoadd", "amoand", "amoor", "amoxor", "amomaxu", "amominu"];
-
-/// The text of a litmus file.
-pub fn litmus(name: &str, case: &Case) -> Result<String, Error> {
+/// The text of a litmus file. It asks for the table's values, or where there is a condition of a text, for that.
+pub fn litmus(name: &str, case: &Case, asked: Option<&Condition>) -> Result<String, Error> {
+    if model_of(&case.table) == Model::Rvtso {
+        return Err(Error::new("the test is of the model RVTSO, which a litmus file can't state"));
+    }
     let harts: Vec<Writer> = (0..case.table.harts).map(|hart| writer(case, hart)).collect::<Result<_, _>>()?;
     let mut text = format!("RISCV {name}\n{{\n");
     for (location, value) in case.locations.iter().zip(case.table.initial) {
@@ -28,15 +30,36 @@ pub fn litmus(name: &str, case: &Case) -> Result<String, Error> {
     }
     text.push_str("}\n");
     text.push_str(&columns(&harts));
-    let mut atoms: Vec<String> = harts.iter().flat_map(|hart| hart.atoms.clone()).collect();
+    let is_asked = |number: usize| asked.is_none() || case.table.events[number].kind == SC;
+    let atoms = harts.iter().flat_map(|hart| hart.results.iter().map(move |result| (hart, result)));
+    let mut atoms: Vec<String> = atoms
+        .filter(|(_, (number, _))| is_asked(*number))
+        .map(|(hart, (number, register))| format!("{}:{register}={}", hart.hart, case.table.events[*number].read))
+        .collect();
     for (location, name) in case.locations.iter().enumerate() {
         if case.table.stated >> location & 1 == 1 {
             atoms.push(format!("{name}={}", case.table.finals[location]));
         }
     }
+    atoms.extend(asked.map(|condition| words(condition, case, &harts)));
     let condition = if atoms.is_empty() { "true".to_string() } else { atoms.join(" /\\ ") };
     text.push_str(&format!("exists ({condition})\n"));
     Ok(text)
+}
+
+/// The condition of a text, over registers.
+fn words(condition: &Condition, case: &Case, harts: &[Writer]) -> String {
+    let inner = |condition: &Condition| words(condition, case, harts);
+    match condition {
+        Condition::Reads(event, value) => {
+            let hart = case.table.events[usize::from(*event)].hart;
+            format!("{hart}:{}={value}", harts[usize::from(hart)].result(*event))
+        }
+        Condition::Ends(location, value) => format!("{}={value}", case.locations[usize::from(*location)]),
+        Condition::Not(condition) => format!("not ({})", inner(condition)),
+        Condition::Both(left, right) => format!("({} /\\ {})", inner(left), inner(right)),
+        Condition::Either(left, right) => format!("({} \\/ {})", inner(left), inner(right)),
+    }
 }
 
 fn columns(harts: &[Writer]) -> String {
@@ -63,7 +86,6 @@ struct Writer<'a> {
     next: u8,
     lines: Vec<String>,
     initial: Vec<String>,
-    atoms: Vec<String>,
     /// The register that each event of the hart has its value or result in.
     results: Vec<(usize, String)>,
     /// What initial registers hold.
@@ -79,7 +101,6 @@ fn writer(case: &Case, hart: u8) -> Result<Writer<'_>, Error> {
         next: FIRST_REGISTER,
         lines: Vec::new(),
         initial: Vec::new(),
-        atoms: Vec::new(),
         results: Vec::new(),
         held: Vec::new(),
         control: 0,
@@ -172,7 +193,6 @@ impl Writer<'_> {
             LR => format!("{word} {to}, ({address})"),
             _ => format!("{word} {to}, {from}, ({address})"),
         });
-        self.atoms.push(format!("{}:{to}={}", self.hart, event.read));
         self.results.push((number, to));
         Ok(())
     }
@@ -201,91 +221,8 @@ mod tests {
     use super::*;
     use crate::choices::Choices;
     use crate::litmus::read;
-    use cogthunder::{Accesses, Annotation, Operation, Table};
-
-    /// Numbers that look random, and are the same in every run.
-    struct Numbers(u64);
-
-    impl Numbers {
-        fn below(&mut self, bound: u8) -> u8 {
-            self.0 = self.0.wrapping_mul(6_364_136_223_846_793_005).wrapping_add(1_442_695_040_888_963_407);
-            ((self.0 >> 33) % u64::from(bound)) as u8
-        }
-    }
-
-    /// A good table of up to 12 events, by hart, without RCpc annotations.
-    fn table(numbers: &mut Numbers) -> Table {
-        const LOCATIONS: u8 = 2;
-        let harts = 1 + numbers.below(3);
-        let mut table = Table::new(harts, LOCATIONS);
-        for location in 0..LOCATIONS {
-            table.store(0, location, u16::from(numbers.below(3)));
-            table.initial_value(location, u16::from(numbers.below(2)));
-        }
-        for hart in 0..harts {
-            let first = table.count;
-            for _ in 0..1 + numbers.below(3) {
-                let location = numbers.below(LOCATIONS);
-                add(&mut table, numbers, hart, location);
-                let event = table.count - 1;
-                dependencies(&mut table, numbers, hart, first, event);
-            }
-        }
-        if numbers.below(2) == 1 {
-            table.final_value(0, u16::from(numbers.below(3)));
-        }
-        table
-    }
-
-    fn add(table: &mut Table, numbers: &mut Numbers, hart: u8, location: u8) {
-        let (read, written) = (u16::from(numbers.below(3)), u16::from(numbers.below(3)));
-        let sets = [Accesses::None, Accesses::R, Accesses::W, Accesses::RW];
-        let event = match numbers.below(7) {
-            0 => table.load(hart, location, read),
-            1 => table.store(hart, location, written),
-            2 => table.amo(hart, location, read, written),
-            3 => table.amo_with(hart, location, read, Operation::Add, written as u8),
-            4 => {
-                table.lr(hart, location, read);
-                table.sc(hart, location, written)
-            }
-            5 => {
-                table.fence(hart, sets[usize::from(numbers.below(4))], sets[usize::from(numbers.below(4))]);
-                return;
-            }
-            _ => {
-                table.fence_tso(hart);
-                return;
-            }
-        };
-        if numbers.below(3) == 0 {
-            table.annotate(event, Annotation::AcquireRcsc);
-            table.annotate(event, Annotation::ReleaseRcsc);
-        }
-    }
-
-    /// Dependencies on earlier events of the hart that have a result. Control dependencies stay.
-    fn dependencies(table: &mut Table, numbers: &mut Numbers, hart: u8, first: u8, event: u8) {
-        let control = (0..event).filter(|&k| table.events[usize::from(k)].hart == hart);
-        let control = control.fold(0, |all, k| all | table.events[usize::from(k)].control);
-        let Event { kind, .. } = table.events[usize::from(event)];
-        if kind >= crate::record::FENCE {
-            return;
-        }
-        table.events[usize::from(event)].control |= control;
-        if kind == SC {
-            table.events[usize::from(event) - 1].control |= control;
-        }
-        for on in first..event {
-            let has_result = ![STORE, 6, 7].contains(&table.events[usize::from(on)].kind);
-            match numbers.below(8) {
-                0 if has_result => table.address_dependency(event, on),
-                1 if has_result && kind != LOAD => table.data_dependency(event, on),
-                2 if has_result => table.control_dependency(event, on),
-                _ => {}
-            }
-        }
-    }
+    use crate::random::{table, Numbers};
+    use cogthunder::{Annotation, Table};
 
     #[test]
     fn a_table_written_and_read_again_is_the_same() {
@@ -293,7 +230,7 @@ mod tests {
         for _ in 0..500 {
             let table = table(&mut numbers);
             table.block().expect("the table is good");
-            let text = litmus("a", &Case::of_table(table.clone())).expect("it can be written");
+            let text = litmus("a", &Case::of_table(table.clone()), None).expect("it can be written");
             let test = read(&text).unwrap_or_else(|error| panic!("{error:?}\n{text}"));
             let mut found = Vec::new();
             let choices = Choices::asked(&test).unwrap_or_else(|error| panic!("{error:?}\n{text}"));
@@ -315,12 +252,17 @@ mod tests {
         let mut table = Table::new(1, 1);
         table.load(0, 0, 0);
         table.annotate(0, Annotation::AcquireRcpc);
-        let error = litmus("a", &Case::of_table(table)).unwrap_err();
+        let error = litmus("a", &Case::of_table(table), None).unwrap_err();
         assert_eq!(error.sentence, "event 0 has an RCpc annotation, which no instruction has");
+        let mut table = Table::new(1, 1);
+        table.load(0, 0, 0);
+        table.tso();
+        let error = litmus("a", &Case::of_table(table), None).unwrap_err();
+        assert_eq!(error.sentence, "the test is of the model RVTSO, which a litmus file can't state");
         let mut table = Table::new(1, 1);
         for _ in 0..28 {
             table.load(0, 0, 0);
         }
-        assert!(litmus("a", &Case::of_table(table)).unwrap_err().sentence.contains("more registers"));
+        assert!(litmus("a", &Case::of_table(table), None).unwrap_err().sentence.contains("more registers"));
     }
 }

@@ -2,23 +2,7 @@
 
 mod common;
 
-use common::{cogthunder, folder, printed};
-use std::io::Write;
-use std::path::Path;
-use std::process::Stdio;
-
-fn run(words: &[&str]) -> (String, String, i32) {
-    printed(&cogthunder().args(words).output().expect("the program runs"))
-}
-
-/// A file of the repository.
-fn repository(path: &str) -> String {
-    Path::new(env!("CARGO_MANIFEST_DIR")).join("../..").join(path).to_str().expect("a path in UTF-8").to_string()
-}
-
-fn sample(name: &str) -> String {
-    repository(&format!("samples/litmus/{name}.litmus"))
-}
+use common::{cogthunder, fed, folder, printed, repository, run, sample};
 
 #[test]
 fn a_line_for_each_test_and_a_summary() {
@@ -127,24 +111,49 @@ fn a_litmus_test_becomes_a_block_and_a_block_a_litmus_test() {
     assert_eq!(again.stdout, stored);
 }
 
+/// What a file expects is of RVWMO, where both are allowed.
+#[test]
+fn litmus_tests_are_decided_in_the_model_that_is_asked_for() {
+    let (out, err, status) = run(&["decide", "--model", "rvtso", &sample("MP"), &sample("SB")]);
+    assert_eq!(out, "MP: forbidden\nSB: allowed\n2 tests: 1 allowed, 1 forbidden\n");
+    assert_eq!((err.as_str(), status), ("", 0));
+    assert_eq!(run(&["decide", "--model", "rvtso", "--expect", "allowed", &sample("MP")]).2, 1);
+    let (out, _, _) = run(&["decide", "--model", "rvwmo", &sample("MP")]);
+    assert_eq!(out, "MP: allowed\n1 test: 1 allowed, 0 forbidden; 1 of 1 as expected\n");
+    let (out, _, _) = run(&["decide", "--model", "rvtso", "--herd", &sample("MP")]);
+    assert!(out.contains("States 3\n") && out.contains("Observation MP Never 0 3\n"), "{out}");
+}
+
+#[test]
+fn a_block_states_its_model() {
+    let block = folder("model").join("MP.block").to_str().unwrap().to_string();
+    assert_eq!(run(&["convert", "--model", "rvtso", &sample("MP"), "-o", &block]).2, 0);
+    assert_eq!(std::fs::read(&block).unwrap()[9], 1);
+    for words in [&["decide", &block][..], &["decide", "--model", "rvtso", &block]] {
+        assert!(run(words).0.starts_with("MP.block: forbidden\n"));
+    }
+    assert!(run(&["show", &block]).0.starts_with("MP.block\nmodel RVTSO\ninitially x=0; y=0\n"));
+    for (words, sentence) in [
+        (&["decide", "--model", "rvwmo", &block][..], "the test states the model RVTSO, and not RVWMO"),
+        (&["convert", &block], "the test is of the model RVTSO, which a litmus file can't state"),
+    ] {
+        let (_, err, status) = run(words);
+        assert_eq!((err.as_str(), status), (format!("cogthunder: {block}: {sentence}\n").as_str(), 2));
+    }
+}
+
 #[test]
 fn standard_input_is_read() {
-    let mut child = cogthunder()
-        .args(["decide", "-"])
-        .stdin(Stdio::piped())
-        .stdout(Stdio::piped())
-        .spawn()
-        .expect("the program runs");
-    let text = std::fs::read(sample("SB")).unwrap();
-    child.stdin.take().unwrap().write_all(&text).unwrap();
-    let (out, _, status) = printed(&child.wait_with_output().unwrap());
+    let (out, _, status) = fed(&["decide", "-"], &std::fs::read(sample("SB")).unwrap());
     assert!(out.starts_with("SB: allowed\n"), "{out}");
     assert_eq!(status, 0);
 }
 
 #[test]
 fn what_cannot_be_done_is_one_sentence_with_status_2() {
-    let refusals: [(&[&str], &str); 7] = [
+    let block = repository("samples/C1.block");
+    let states = format!("{block}: the test states the model RVWMO, and not RVTSO");
+    let refusals: [(&[&str], &str); 12] = [
         (&[], "a subcommand is missing"),
         (&["decode"], "there is no subcommand `decode`"),
         (&["decide", "--fast", "x"], "there is no option `--fast` here"),
@@ -152,6 +161,11 @@ fn what_cannot_be_done_is_one_sentence_with_status_2() {
         (&["decide", "."], ".: this is a directory, and not a file"),
         (&["show", "."], ".: this is a directory, and not a file"),
         (&["convert", "."], ".: this is a directory, and not a file"),
+        (&["explain", "."], ".: this is a directory, and not a file"),
+        (&["step", "."], ".: this is a directory, and not a file"),
+        (&["report", "."], ".: this is a directory, and not a file"),
+        (&["step", &block], &states),
+        (&["show", "--model", "rvtso", &block], &states),
     ];
     for (words, sentence) in refusals {
         let (_, err, status) = run(words);
@@ -162,7 +176,16 @@ fn what_cannot_be_done_is_one_sentence_with_status_2() {
 
 #[test]
 fn a_closed_pipe_is_one_sentence_with_status_2() {
-    let commands: [&[&str]; 3] = [&["--help"], &["decide", &sample("MP")], &["show", &sample("MP")]];
+    let file = sample("MP");
+    let commands: [&[&str]; 7] = [
+        &["--help"],
+        &["decide", &file],
+        &["show", &file],
+        &["show", "--svg", &file],
+        &["explain", &file],
+        &["step", &file],
+        &["report", &file],
+    ];
     for words in commands {
         let (reader, writer) = std::io::pipe().expect("a pipe");
         drop(reader);

@@ -129,7 +129,7 @@ fn huge() -> Vec<(&'static str, Vec<u8>)> {
         ("values", format!("RISCV a\n{{ 0:x6=1; 0:x7=x; }}\n{counts}").into_bytes()),
         ("latin-1", with("MP", "caf".to_string()).into_iter().chain(*b"\n\xe9").collect()),
         ("utf-16", GOOD.encode_utf16().flat_map(u16::to_le_bytes).collect()),
-        ("text", b"1 0 0 0 0 0 0 0 0 0 0\n\n0\nr0=0\n".to_vec()),
+        ("text", b"1 0 0 0 0 0 0 0 0 0 0\n\n0\nr0=00\n".to_vec()),
         ("no memory", b"RISCV a\n{}\nP0 ;\n fence rw,rw ;\n j L ;\n L: ;\nexists (true)".to_vec()),
     ]
 }
@@ -162,7 +162,7 @@ fn each_malformed_file_gets_one_sentence() {
     for (name, bytes) in files {
         let file = folder.join(&name);
         std::fs::write(&file, bytes).expect("the file can be written");
-        for subcommand in ["decide", "show", "convert"] {
+        for subcommand in ["decide", "show", "explain", "convert", "step", "report"] {
             check(&name, &file, subcommand);
         }
         std::fs::remove_file(&file).expect("the file can be removed");

@@ -22,6 +22,7 @@ pub use instruction::{Access, AccessKind, Action, Instruction, Source};
 pub use operation::{sign_extended, truncated, AmoOp, Comparison, Op};
 pub use register::{Register, REGISTERS};
 
+use crate::arguments::Model;
 use crate::error::{quoted, Error};
 use crate::value::Value;
 use cursor::Cursor;
@@ -56,6 +57,8 @@ pub struct Hart {
 #[derive(Clone, Debug)]
 pub struct Test {
     pub name: String,
+    /// The model that it is decided in. A file doesn't state one.
+    pub model: Model,
     /// What the file says that the outcome asked for should be.
     pub expected: Option<Expected>,
     /// The names of the locations, by number.
@@ -82,6 +85,7 @@ pub fn read(text: &str) -> Result<Test, Error> {
     question.condition.narrow(width);
     let mut test = Test {
         name: header.name.to_string(),
+        model: Model::Rvwmo,
         expected: result.map(|(word, line)| expected(word, line, question.quantifier)).transpose()?,
         initial: vec![0; names.all().len()],
         locations: names.all().to_vec(),

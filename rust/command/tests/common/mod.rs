@@ -1,5 +1,7 @@
-//! What the tests of the whole program share.
+//! What the tests of the whole program share. Not every file of tests uses all of it.
+#![allow(dead_code)]
 
+use std::io::Write;
 use std::path::{Path, PathBuf};
 use std::process::{Command, Output, Stdio};
 
@@ -22,4 +24,28 @@ pub fn folder(name: &str) -> PathBuf {
 pub fn printed(output: &Output) -> (String, String, i32) {
     let text = |bytes: &[u8]| String::from_utf8(bytes.to_vec()).expect("the program prints UTF-8");
     (text(&output.stdout), text(&output.stderr), output.status.code().expect("no signal ended it"))
+}
+
+/// Runs the program to its end.
+pub fn run(words: &[&str]) -> (String, String, i32) {
+    printed(&cogthunder().args(words).output().expect("the program runs"))
+}
+
+/// The same with something on standard input.
+pub fn fed(words: &[&str], input: &[u8]) -> (String, String, i32) {
+    let mut command = cogthunder();
+    command.args(words).stdin(Stdio::piped()).stdout(Stdio::piped()).stderr(Stdio::piped());
+    let mut child = command.spawn().expect("the program runs");
+    child.stdin.take().unwrap().write_all(input).expect("the program reads");
+    printed(&child.wait_with_output().expect("the program ends"))
+}
+
+/// A file of the repository.
+pub fn repository(path: &str) -> String {
+    Path::new(env!("CARGO_MANIFEST_DIR")).join("../..").join(path).to_str().expect("a path in UTF-8").to_string()
+}
+
+/// A litmus file of the repository.
+pub fn sample(name: &str) -> String {
+    repository(&format!("samples/litmus/{name}.litmus"))
 }
