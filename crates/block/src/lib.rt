@@ -86,7 +86,12 @@ fn read_one(s: &[u8]) -> Reading
         return refused(1);
     }
     let t = decode::decode(s);
-    let refusal = table_lines::refuse(t, t.stated, EditionOne::EVENTS, zero_bytes::bytes_not_zero(s));
+    let refusal = table_lines::refuse(
+        t,
+        t.stated,
+        EditionOne::EVENTS,
+        zero_bytes::bytes_not_zero(s),
+    );
     match refusal {
         Refusal::None => Reading {
             refusal: Refusal::None,
@@ -121,7 +126,12 @@ fn read_two(s: &[u8]) -> Reading
     }
     let t = wide_records::decode(s);
     table_if(
-        table_lines::refuse(t, t.stated, EditionTwo::EVENTS, zero_bytes::wide_bytes_not_zero(s)),
+        table_lines::refuse(
+            t,
+            t.stated,
+            EditionTwo::EVENTS,
+            zero_bytes::wide_bytes_not_zero(s),
+        ),
         t,
     )
 }

@@ -14,8 +14,7 @@ enum Effect {
 }
 
 fn taken(line: Line, event: u8, entry: u8) -> Line {
-    line.item(b"taken, event ", event)
-        .item(b", entry ", entry)
+    line.item(b"taken, event ", event).item(b", entry ", entry)
 }
 
 fn step(k: u64, block: &[u8], steps: &[u8]) {

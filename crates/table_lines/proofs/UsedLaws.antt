@@ -82,7 +82,7 @@ module _ (t : Table) (most : ℕ) (extra : Bool) where
       go accepted e =
           let few = table-passed-by (line7 t) most extra t e .counts .locations in
           let off = some-none (t .locations) (λ x. not (touched t x) && not (bit everyLocation x))
-              (λ x l. ap (λ (b : Bool). not (touched t x) && not b) (each-named x (omega (arith, l, few))) ∙ and-false (not (touched t x))) in
+          (λ x l. ap (λ (b : Bool). not (touched t x) && not b) (each-named x (omega (arith, l, few))) ∙ and-false (not (touched t x))) in
           passed-first (t .count) lines (whole 21 (line21 (bit everyLocation) t) ∷ []) e
           ∙ sym (whole-next (t .count) 21 (line21 (bit everyLocation) t) [] accepted off (none-here (t .count))) ∙ sym e
       go (byLine n) e = refused-first (t .count) lines (whole 21 (line21 (bit everyLocation) t) ∷ []) (λ h. line-refuses n (sym e ∙ h))

@@ -68,7 +68,9 @@ pub fn refused(line: Line, r: Refusal) -> Line {
 
 // The number of a text's refusal, and the place of its byte.
 pub fn refused_at(line: Line, n: u8, place: usize) -> Line {
-    line.item(b"refused ", n).text(b", place ").number(place as u64)
+    line.item(b"refused ", n)
+        .text(b", place ")
+        .number(place as u64)
 }
 
 // The number of a refusal's line, 0 for none.
