@@ -28,8 +28,9 @@
  *   5  value read          reader              -                           -             -
  *   6  final value         location            -                           -             -
  *   7  found               length written      -                           -             visited
- *   8  none left           -                   -                           -             visited
- *   9  spent               length written      -                           -             visited
+ *                          outcomes: values of each                                      ct_outcomes: how many
+ *   8  none left           -                   -                           -             visited, 0 of outcomes
+ *   9  spent               length written      -                           -             visited, 0 of outcomes
  *   10 step accepted       event               entry of a returned list    -             -
  */
 #ifndef COGTHUNDER_H
@@ -56,8 +57,14 @@ extern "C" {
 /* A test has at most this many events, one of edition 1 up to 16: the entries of a returned list, and of an order. */
 #define CT_EVENTS 30u
 
-/* The largest allowance of a search. */
+/* The largest allowance of a search, and of a call for outcomes. */
 #define CT_ALLOWANCE UINT64_C(1000000000)
+
+/* An outcome has a value for each event that reads and for each location: at most this many. */
+#define CT_VALUES (CT_EVENTS + CT_LOCATIONS)
+
+/* No call of ct_outcomes writes more outcomes than this. */
+#define CT_OUTCOMES 64u
 
 /* In a returned list: the entry of an event that doesn't read, and of one that returns the initial value. */
 #define CT_NOTHING 254u
@@ -87,6 +94,7 @@ enum ct_case {
 #define CT_BYTE2(word) ((unsigned)((word) >> 16 & 0xff))
 #define CT_BYTE3(word) ((unsigned)((word) >> 24 & 0xff))
 #define CT_VISITED(word) ((uint32_t)((word) >> 32))
+#define CT_OUTCOMES_WRITTEN(word) ((uint32_t)((word) >> 32))
 #define CT_RULES(word) ((uint16_t)((word) >> 32 & 0xffff))
 
 /* Of refusals 19 and 20: the byte of the text, from 0, where it is wrong; the text's length if it ends too soon. */
@@ -211,6 +219,29 @@ uint64_t ct_search(const uint8_t *test, size_t test_len, const uint8_t *start, s
  */
 uint64_t ct_search_pruned(const uint8_t *test, size_t test_len, const uint8_t *start, size_t start_len, uint8_t *out,
                           size_t out_len, uint64_t allowance);
+
+/*
+ * The next outcome of a test. An outcome is what some order that the rules allow gives: the value of each event that reads, in the
+ * order of the events, then the value that each location of the test ends at. The reads and final values that the test states aren't
+ * asked for, and an AMO with an operation writes what this makes of the value that the order makes it return. Outcomes are compared
+ * value by value.
+ *
+ * `previous` is an earlier outcome, with its length, or has length 0 for none; it may also be any other values, as many as an outcome
+ * has. Case 7: the least outcome above it is written to the front of `out`, which has room for it (CT_VALUES is enough for any test);
+ * byte 1 is the number of its values, and places past them stay. Case 8: no outcome is above it. Case 9, spent: the test has more clean
+ * prefixes, all of them counted from the empty start, than the allowance, whatever the previous outcome. Cases 8 and 9 write nothing.
+ * Case 1: refusal 1 to 11 or 21; 12 if `previous` has another length, 16 if `out` has too few places, 17.
+ */
+uint64_t ct_outcome(const uint8_t *test, size_t test_len, const uint16_t *previous, size_t previous_len, uint16_t *out,
+                    size_t out_len, uint64_t allowance);
+
+/*
+ * The next outcomes at once, which takes no longer than the next one: as many as there are and `out` has room for, CT_OUTCOMES at
+ * most, ascending, one behind the other. Arguments and cases are those of ct_outcome; of case 7, bytes 4 to 7 are the number of
+ * outcomes written. The next call is given the last of them.
+ */
+uint64_t ct_outcomes(const uint8_t *test, size_t test_len, const uint16_t *previous, size_t previous_len, uint16_t *out,
+                     size_t out_len, uint64_t allowance);
 
 /*
  * Reads a test as text, of up to CT_TEXT bytes. Case 0: it is good. Case 1: refusal 1, 5, 7 to 11, 19 to 21 or 23. The text

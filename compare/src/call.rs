@@ -1,10 +1,12 @@
 //! One call, and what may come of it.
 
-use cogthunder::{Answer, Axiom, Refusal, Rules, Table, Taken};
+use cogthunder::{Answer, Axiom, Listing, Refusal, Rules, Table, Taken};
+use oracle::outcome::Asked;
 use oracle::raw::RawTable;
 use oracle::search::Engine;
 use oracle::text_test::TextRefusal;
 use oracle::walks::Given;
+use std::borrow::Cow;
 use std::fmt;
 use std::ops::Range;
 
@@ -64,6 +66,20 @@ pub enum Entry {
     },
     /// All runs of the machine, and all witnesses.
     Runs,
+    /// The next outcome above a list of values, or the next ones.
+    Outcomes {
+        asked: Asked,
+        previous: Vec<u16>,
+        out: Vec<u16>,
+        allowance: u64,
+    },
+    /// All outcomes above a list of values: by single calls, or by the iterator, which is resumed after some outcomes.
+    AllOutcomes {
+        asked: Asked,
+        previous: Vec<u16>,
+        allowance: u64,
+        resumed_after: usize,
+    },
 }
 
 /// What is asked of a suite.
@@ -110,6 +126,8 @@ pub enum Reply {
     OtherWitnesses([Walked; 2]),
     Taken(Taken),
     Ran(Ran),
+    Listed(Listing),
+    AllOutcomes(Vec<Vec<u16>>),
 }
 
 /// The orders of all complete runs of the machine, with their returned lists, and all witnesses; both ascending.
@@ -180,18 +198,23 @@ impl From<TextRefusal> for Reply {
     }
 }
 
+/// The bytes of a list or a buffer, if the entry has one.
+type Lent<'a> = Option<Cow<'a, [u8]>>;
+
 impl Entry {
     /// The lists that are lent beside the test, and must stay as they are.
-    pub fn inputs(&self) -> (Option<&[u8]>, Option<&[u8]>) {
+    pub fn inputs(&self) -> (Lent<'_>, Lent<'_>) {
         match self {
             Entry::Read | Entry::ReadText | Entry::TableOfText => (None, None),
             Entry::Write { .. } | Entry::Suite(_) | Entry::BothEngines { .. } | Entry::Runs => (None, None),
-            Entry::Verdict { returned, order } => (Some(returned), Some(order)),
+            Entry::Verdict { returned, order } => (Some(returned.into()), Some(order.into())),
             Entry::Rules { returned: list, .. }
             | Entry::Returns { order: list, .. }
             | Entry::Search { start: list, .. }
             | Entry::Witnesses { start: list, .. }
-            | Entry::Step { steps: list, .. } => (Some(list), None),
+            | Entry::Step { steps: list, .. } => (Some(list.into()), None),
+            Entry::Outcomes { previous, .. } => (Some(value_bytes(previous).into()), None),
+            Entry::AllOutcomes { .. } => (None, None),
         }
     }
 
@@ -205,9 +228,10 @@ impl Entry {
     }
 
     /// The buffer that is written to.
-    pub fn out(&self) -> Option<&[u8]> {
+    pub fn out(&self) -> Lent<'_> {
         match self {
-            Entry::Write { out, .. } | Entry::Returns { out, .. } | Entry::Search { out, .. } => Some(out),
+            Entry::Write { out, .. } | Entry::Returns { out, .. } | Entry::Search { out, .. } => Some(out.into()),
+            Entry::Outcomes { out, .. } => Some(value_bytes(out).into()),
             _ => None,
         }
     }
@@ -233,8 +257,16 @@ impl Entry {
             Entry::BothEngines { .. } => "both engines",
             Entry::Step { .. } => "step",
             Entry::Runs => "all runs",
+            Entry::Outcomes { asked: Asked::One, .. } => "outcome",
+            Entry::Outcomes { asked: Asked::Some, .. } => "outcomes",
+            Entry::AllOutcomes { .. } => "all outcomes",
         }
     }
+}
+
+/// Values as they lie in memory, the lower byte first.
+pub fn value_bytes(values: &[u16]) -> Vec<u8> {
+    values.iter().flat_map(|value| value.to_le_bytes()).collect()
 }
 
 /// Bytes in lines of 32, two digits each.

@@ -2,6 +2,7 @@
 
 use crate::call::{Call, Entry, OfSuite, Outcome, Reply};
 use crate::comparison::{Comparison, Difference};
+use crate::outcomes::{all_outcomes, any_listing, outcome_calls};
 use crate::runs::{all_runs, any_step, steps};
 use crate::texts::*;
 use crate::writes::writes;
@@ -26,7 +27,7 @@ use oracle::walks::Given;
 pub type Round = fn(&mut Prng, &mut Comparison) -> Result<(), Box<Difference>>;
 
 /// As often as they shall come.
-const ROUNDS: [Round; 46] = [
+const ROUNDS: [Round; 50] = [
     candidates,
     candidates,
     candidates,
@@ -47,6 +48,10 @@ const ROUNDS: [Round; 46] = [
     steps,
     all_runs,
     all_runs,
+    outcome_calls,
+    outcome_calls,
+    all_outcomes,
+    all_outcomes,
     damaged_table,
     damaged_table,
     damaged_table,
@@ -247,7 +252,7 @@ pub fn nearly(prng: &mut Prng, list: &[u8]) -> Vec<u8> {
 }
 
 /// A table of some size that often has witnesses, in either model.
-fn table_with_outcome(prng: &mut Prng, events: usize) -> Table {
+pub fn table_with_outcome(prng: &mut Prng, events: usize) -> Table {
     let model = any_model(prng);
     program_with_outcome(prng, events, model)
 }
@@ -273,7 +278,7 @@ fn small_walk(prng: &mut Prng, comparison: &mut Comparison) -> Result<(), Box<Di
 }
 
 /// A table of more events than edition 1 has room for, whose harts are chains, in either model.
-fn any_chain(prng: &mut Prng) -> Table {
+pub fn any_chain(prng: &mut Prng) -> Table {
     let model = any_model(prng);
     chained_table(prng).in_model(model)
 }
@@ -415,7 +420,7 @@ fn every_entry(prng: &mut Prng, calls: &mut Calls, table: &Table) -> Result<(), 
     let step = any_step(prng, None);
     calls.call(Entry::Step { steps: start, step })?;
     calls.call(Entry::Step { steps: Vec::new(), step })?;
-    Ok(())
+    any_listing(prng, calls, table, allowance)
 }
 
 /// A table without a memory event.

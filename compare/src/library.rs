@@ -2,6 +2,7 @@
 
 use crate::call::{Bench, Call, Entry, OfSuite, Outcome, Reply, Walked};
 use crate::lent::Room;
+use crate::outcomes;
 use crate::reference::same_fields;
 use crate::runs;
 use cogthunder::{Answer, Refusal, Table, Tests, Verdict, Witnesses};
@@ -67,19 +68,27 @@ impl Library {
                 cogthunder::step(bytes, self.first.lend(steps), *step).map_or_else(Reply::from, Reply::Taken)
             }
             Entry::Runs => runs::library(bytes).map_or_else(Reply::from, Reply::Ran),
+            Entry::Outcomes { asked, previous, out, allowance } => {
+                let (previous, out) = (self.first.lend_values(previous), self.second.lend_values(out));
+                outcomes::entry_of(*asked)(bytes, previous, out, *allowance).map_or_else(Reply::from, Reply::Listed)
+            }
+            Entry::AllOutcomes { asked, previous, allowance, resumed_after } => {
+                outcomes::library(bytes, *asked, previous, *allowance, *resumed_after)
+                    .map_or_else(Reply::from, Reply::AllOutcomes)
+            }
         }
     }
 
     fn altered(&mut self, call: &Call) -> Vec<&'static str> {
         let (first, second) = call.entry.inputs();
         let rooms = [
-            ("the test, the text or the suite", &mut self.bytes, Some(&call.bytes[..])),
+            ("the test, the text or the suite", &mut self.bytes, Some((&call.bytes).into())),
             ("the list after it", &mut self.first, first),
             ("the second list or the buffer", &mut self.second, second),
         ];
         let mut altered = Vec::new();
         for (name, room, input) in rooms {
-            if room.is_trespassed() || input.is_some_and(|before| room.now() != before) {
+            if room.is_trespassed() || input.is_some_and(|before| before != room.now()) {
                 altered.push(name);
             }
         }

@@ -1,12 +1,15 @@
-//! The public litmus tests: the stated verdict of each by both of the library's engines, a witness of each allowed outcome by
-//! its verdict.
+//! The public litmus tests: the stated verdict of each by both of the library's engines and by the list of its outcomes, a witness
+//! of each allowed outcome by its verdict.
 
-use cogthunder::{returns, verdict, Refusal, Verdict, Witnesses, EVENTS};
+use cogthunder::{returns, verdict, Outcomes, Table, Unlisted, Verdict, Witnesses, EVENTS, LARGEST_ALLOWANCE};
 use std::io::{stdin, BufRead};
 use std::process::ExitCode;
 
 /// Where a good block has its number of events.
 const EVENTS_AT: usize = 7;
+
+/// The kinds of events that read: loads, AMOs and LRs.
+const READERS: [u8; 3] = [1, 3, 4];
 
 /// Reads a line for each test: stated verdict, block in hex and name, parted by tabs.
 pub fn run() -> ExitCode {
@@ -26,8 +29,8 @@ pub fn run() -> ExitCode {
         }
     }
     println!(
-        "litmus: {allowed} allowed, each with a first witness of both engines that the verdict allows; {forbidden} forbidden, \
-         each walked until none was left; {wrong} not as stated"
+        "litmus: {allowed} allowed, each with a first witness of both engines that the verdict allows, and among its test's \
+         outcomes; {forbidden} forbidden, each walked until none was left, and not among them; {wrong} not as stated"
     );
     if wrong == 0 && allowed + forbidden > 0 {
         ExitCode::SUCCESS
@@ -40,13 +43,14 @@ pub fn run() -> ExitCode {
 enum Outcome {
     Allowed,
     Forbidden,
-    /// The engines have different first witnesses, or the verdict doesn't allow theirs.
+    /// The engines have different first witnesses, the verdict doesn't allow theirs, or the list of outcomes says otherwise.
     Contradicted,
 }
 
-fn outcome(block: &[u8]) -> Result<Outcome, Refusal> {
+fn outcome(block: &[u8]) -> Result<Outcome, Unlisted> {
     let first = Witnesses::of(block)?.next();
-    if first != Witnesses::pruned(block)?.next() {
+    let is_listed = Outcomes::of(block, LARGEST_ALLOWANCE)?.any(|outcome| is_stated(block, &outcome));
+    if first != Witnesses::pruned(block)?.next() || first.is_some() != is_listed {
         return Ok(Outcome::Contradicted);
     }
     let Some(order) = first else {
@@ -59,6 +63,16 @@ fn outcome(block: &[u8]) -> Result<Outcome, Refusal> {
         Verdict::Allowed => Outcome::Allowed,
         Verdict::Broken(_) => Outcome::Contradicted,
     })
+}
+
+/// Whether an outcome has the values that a good block states: those of all reads, and of some locations.
+fn is_stated(block: &[u8], outcome: &[u16]) -> bool {
+    let table = Table::of_test(block).expect("the block is good");
+    let events = &table.events[..usize::from(table.count)];
+    let reads = events.iter().filter(|event| READERS.contains(&event.kind)).map(|event| event.read);
+    let (read, ends) = outcome.split_at(outcome.len() - usize::from(table.locations));
+    let mut stated = (0..ends.len()).filter(|location| table.stated >> location & 1 == 1);
+    reads.eq(read.iter().copied()) && stated.all(|location| ends[location] == table.finals[location])
 }
 
 /// The bytes that pairs of hex digits give.

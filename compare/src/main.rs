@@ -6,6 +6,7 @@ mod comparison;
 mod lent;
 mod library;
 mod litmus;
+mod outcomes;
 mod pages;
 mod reference;
 mod runs;
@@ -72,7 +73,7 @@ fn main() -> ExitCode {
 /// Makes rounds of calls until there are enough of them, and prints what was done.
 fn run(options: &Options) -> ExitCode {
     let begin = Instant::now();
-    let mut comparison = Comparison::new(Reference, Library::new(options.room));
+    let mut comparison = Comparison::new(Reference::default(), Library::new(options.room));
     let difference = rounds(&mut comparison, options, begin).err();
     let Comparison { tally, .. } = &comparison;
     println!("compare: seed {}, {} calls, {:.1} s", options.seed, tally.calls, begin.elapsed().as_secs_f64());
@@ -92,7 +93,7 @@ fn run(options: &Options) -> ExitCode {
 
 /// Reads every change of some texts, and prints how many there are.
 fn run_texts() -> ExitCode {
-    let mut comparison = Comparison::new(Reference, Library::new(Room::with_guard_bytes));
+    let mut comparison = Comparison::new(Reference::default(), Library::new(Room::with_guard_bytes));
     match texts::every_change(&mut comparison) {
         Ok(count) => {
             println!("texts: {count} changed or cut, each read as by the independent program");

@@ -2,8 +2,10 @@
 
 use crate::call::{Bench, Call, Entry, OfSuite, Outcome, Reply, Walked};
 use crate::library::place_in;
+use crate::outcomes;
 use crate::runs;
 use cogthunder::{Answer, Axiom, Event, Rules, Table, Taken};
+use oracle::outcome::{Arguments, Lister};
 use oracle::raw::RawTable;
 use oracle::record::RawEvent;
 use oracle::search::{Engine, MAX_ALLOWANCE};
@@ -13,17 +15,21 @@ use oracle::walks::Given;
 /// "Block number not in the suite".
 const NOT_IN_SUITE: u8 = 18;
 
-pub struct Reference;
+/// It keeps the outcomes of the test that it listed last.
+#[derive(Default)]
+pub struct Reference {
+    lister: Lister,
+}
 
 impl Bench for Reference {
     fn outcome(&mut self, call: &Call) -> Outcome {
-        let mut out = call.entry.out().unwrap_or_default().to_vec();
-        let reply = reply(call, &mut out);
+        let mut out = call.entry.out().unwrap_or_default().into_owned();
+        let reply = reply(&mut self.lister, call, &mut out);
         Outcome { reply, out, altered: Vec::new() }
     }
 }
 
-fn reply(call: &Call, buffer: &mut [u8]) -> Reply {
+fn reply(lister: &mut Lister, call: &Call, buffer: &mut [u8]) -> Reply {
     let bytes = &call.bytes;
     match &call.entry {
         Entry::Read => oracle::table::read(bytes).map_or_else(Reply::from, |table| same_table(&table).into()),
@@ -49,6 +55,14 @@ fn reply(call: &Call, buffer: &mut [u8]) -> Reply {
         Entry::Step { steps, step } => oracle::machine::step(bytes, steps, *step)
             .map_or_else(Reply::from, |taken| Reply::Taken(Taken { event: taken.event as u8, entry: taken.entry() })),
         Entry::Runs => runs::reference(bytes).map_or_else(Reply::from, Reply::Ran),
+        Entry::Outcomes { asked, previous, out, allowance } => {
+            let places = out.len();
+            let arguments = Arguments { asked: *asked, previous, places, allowance: *allowance };
+            outcomes::listed(lister, bytes, arguments, buffer).map_or_else(Reply::from, Reply::Listed)
+        }
+        Entry::AllOutcomes { previous, allowance, .. } => {
+            outcomes::reference(bytes, previous, *allowance).unwrap_or_else(Reply::from)
+        }
     }
 }
 

@@ -4,6 +4,7 @@ use crate::call::{Call, Entry, OfSuite};
 use oracle::candidate::{INITIAL, NON_READER};
 use oracle::encode::seal;
 use oracle::layout::*;
+use oracle::outcome::Asked;
 use oracle::raw::RawTable;
 use oracle::record::RawEvent;
 use oracle::stream::Stream;
@@ -110,6 +111,13 @@ fn without_event(edition: Edition, call: &Call, k: usize) -> Call {
         }
         entry @ (Entry::Read | Entry::ReadText | Entry::TableOfText) => entry,
         Entry::Step { steps, step } => Entry::Step { steps: steps_without(edition, &call.bytes, &steps, k), step },
+        Entry::Outcomes { asked, previous, out, allowance } => {
+            Entry::Outcomes { asked, previous: values_without(edition, &call.bytes, &previous, k), out, allowance }
+        }
+        Entry::AllOutcomes { asked, previous, allowance, resumed_after } => {
+            let previous = values_without(edition, &call.bytes, &previous, k);
+            Entry::AllOutcomes { asked, previous, allowance, resumed_after }
+        }
         entry @ (Entry::Write { .. } | Entry::Suite(_) | Entry::BothEngines { .. } | Entry::Runs) => entry,
     };
     Call { bytes, entry }
@@ -176,8 +184,22 @@ fn steps_without(edition: Edition, test: &[u8], steps: &[u8], k: usize) -> Vec<u
     (0..steps.len()).filter(|at| ![issue, drain].contains(&Some(*at))).map(|at| steps[at]).collect()
 }
 
+/// Values without that of event k, if it reads.
+fn values_without(edition: Edition, test: &[u8], values: &[u16], k: usize) -> Vec<u16> {
+    let reads = |event: usize| {
+        let event = RawEvent::of_record(edition, &test[edition.record(event)]).typed();
+        event.is_some_and(|event| event.reads())
+    };
+    let mut values = values.to_vec();
+    let place = (0..k).filter(|&event| reads(event)).count();
+    if reads(k) && place < values.len() {
+        values.remove(place);
+    }
+    values
+}
+
 /// A list without its last entry, or nothing.
-fn shorter(list: &[u8]) -> Option<Vec<u8>> {
+fn shorter<T: Clone>(list: &[T]) -> Option<Vec<T>> {
     list.split_last().map(|(_, rest)| rest.to_vec())
 }
 
@@ -219,8 +241,36 @@ fn smaller_entries(entry: &Entry) -> Vec<Entry> {
         Entry::Witnesses { given, start, allowance, steps } => {
             entries.extend(smaller_walks(*given, start, *allowance, *steps))
         }
+        Entry::Outcomes { asked, previous, out, allowance } => {
+            entries.extend(smaller_listings(*asked, previous, out, *allowance))
+        }
+        Entry::AllOutcomes { asked, previous, allowance, resumed_after } => {
+            let with = |previous: &[u16], allowance, resumed_after| Entry::AllOutcomes {
+                asked: *asked,
+                previous: previous.to_vec(),
+                allowance,
+                resumed_after,
+            };
+            entries.extend((!previous.is_empty()).then(|| with(&[], *allowance, *resumed_after)));
+            entries.extend(smaller_numbers(*allowance).map(|allowance| with(previous, allowance, *resumed_after)));
+            let sooner = smaller_numbers(*resumed_after as u64);
+            entries.extend(sooner.map(|resumed_after| with(previous, *allowance, resumed_after as usize)));
+        }
     }
     entries
+}
+
+/// A call for the next outcome without a previous one, with a shorter list in its place, a shorter buffer, or a smaller allowance.
+fn smaller_listings(asked: Asked, previous: &[u16], out: &[u16], allowance: u64) -> Vec<Entry> {
+    let with = |previous: &[u16], out: &[u16], allowance| {
+        let (previous, out) = (previous.to_vec(), out.to_vec());
+        Entry::Outcomes { asked, previous, out, allowance }
+    };
+    let none = (!previous.is_empty()).then(|| with(&[], out, allowance));
+    let lists = shorter(previous).map(|previous| with(&previous, out, allowance));
+    let buffers = shorter(out).map(|out| with(previous, &out, allowance));
+    let allowances = smaller_numbers(allowance).map(|allowance| with(previous, out, allowance));
+    none.into_iter().chain(lists).chain(buffers).chain(allowances).collect()
 }
 
 fn smaller_asked(asked: &OfSuite) -> Vec<OfSuite> {

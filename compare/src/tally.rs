@@ -1,7 +1,7 @@
 //! How many calls were made, and what they gave.
 
 use crate::call::{Call, Entry, Outcome, Reply};
-use cogthunder::{Answer, Axiom, Rules, Taken, INITIALLY, NOTHING};
+use cogthunder::{Answer, Axiom, Listing, Rules, Taken, INITIALLY, NOTHING};
 use oracle::layout::LONGEST_TEST;
 use oracle::search::Engine;
 use oracle::walks::Given;
@@ -24,6 +24,7 @@ const SEARCHES: [[&str; 3]; 3] = [
     ["text found", "text none left", "text spent"],
 ];
 
+const LISTINGS: [&str; 4] = ["one", "some", "none left", "spent"];
 const STEPS: [&str; 3] = ["a store or fence", "a read of an initial value", "a read from an event"];
 
 #[derive(Default)]
@@ -42,6 +43,9 @@ pub struct Tally {
     /// Steps that the machine took, by what a returned list holds for their events; and orders of all runs of some tables.
     taken: BTreeMap<&'static str, u64>,
     orders_of_runs: u64,
+    /// Calls for outcomes by what they gave; and outcomes of those for all of them.
+    listings: BTreeMap<&'static str, u64>,
+    all_outcomes: u64,
     written: u64,
     not_written: BTreeMap<u8, u64>,
 }
@@ -77,6 +81,15 @@ fn taken_name(taken: &Taken) -> &'static str {
     }]
 }
 
+fn listing_name(listing: &Listing) -> &'static str {
+    LISTINGS[match listing {
+        Listing::Listed { outcomes: 1, .. } => 0,
+        Listing::Listed { .. } => 1,
+        Listing::NoneLeft => 2,
+        Listing::Spent => 3,
+    }]
+}
+
 impl Tally {
     fn count_rules(&mut self, rules: Rules) {
         for rule in rules.iter() {
@@ -105,6 +118,8 @@ impl Tally {
             Reply::Rules(rules) => self.count_rules(*rules),
             Reply::Taken(taken) => *self.taken.entry(taken_name(taken)).or_default() += 1,
             Reply::Ran(ran) => self.orders_of_runs += ran.orders.len() as u64,
+            Reply::Listed(listing) => *self.listings.entry(listing_name(listing)).or_default() += 1,
+            Reply::AllOutcomes(outcomes) => self.all_outcomes += outcomes.len() as u64,
             Reply::Good if call.entry.name() == "verdict" => *self.verdicts.entry(VERDICTS[0]).or_default() += 1,
             Reply::Searched(answer) => *self.searches.entry(search_name(&call.entry, answer)).or_default() += 1,
             Reply::Table(_) if call.entry == Entry::ReadText => self.good_texts += 1,
@@ -130,6 +145,8 @@ impl Tally {
         let searches =
             SEARCHES.iter().flatten().filter(|&name| !self.searches.contains_key(name)).map(|name| name.to_string());
         let steps = STEPS.iter().filter(|&name| !self.taken.contains_key(name)).map(|name| format!("step: {name}"));
+        let listings = LISTINGS.iter().filter(|&name| !self.listings.contains_key(name));
+        let listings = listings.map(|name| format!("outcomes: {name}"));
         let not_written = TABLE_REFUSALS.iter().filter(|&n| !self.not_written.contains_key(n));
         let not_written = not_written.map(|n| format!("refusal {n} of a table"));
         let written = (self.written == 0).then(|| "a table that is written".to_string());
@@ -137,7 +154,7 @@ impl Tally {
         let text = (self.good_texts == 0).then(|| "a good text".to_string());
         let refusals = refusals.chain(of_texts).chain(not_written);
         let good = written.into_iter().chain(in_two).chain(text);
-        refusals.chain(rules).chain(verdicts).chain(searches).chain(steps).chain(good).collect()
+        refusals.chain(rules).chain(verdicts).chain(searches).chain(steps).chain(listings).chain(good).collect()
     }
 }
 
@@ -155,6 +172,7 @@ impl fmt::Display for Tally {
         writeln!(f, "  rules    {}", listed(&self.rules))?;
         writeln!(f, "  searches {}", listed(&self.searches))?;
         writeln!(f, "  steps    {}; orders of all runs: {}", listed(&self.taken), self.orders_of_runs)?;
+        writeln!(f, "  outcomes {}; all of some tests: {}", listed(&self.listings), self.all_outcomes)?;
         write!(f, "  tables   written: {}, refused by {}", self.written, listed(&self.not_written))
     }
 }

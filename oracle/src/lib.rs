@@ -10,6 +10,8 @@ pub mod layout;
 pub mod litmus;
 pub mod machine;
 pub mod operation;
+pub mod outcome;
+pub mod outcome_calls;
 pub mod raw;
 pub mod readings;
 pub mod record;

@@ -1,12 +1,15 @@
 //! The reference program of the RVWMO bench. Its commands are listed in the README.
 
-use oracle::{candidates, generate, readings, runs, stream, suite, tests, texts, walks, writes};
+use oracle::{
+    candidates, generate, outcome_calls, readings, runs, stream, suite, tests, texts, walks, writes,
+};
 use std::io::{self, Read, Write};
 use std::process::ExitCode;
 
 const USAGE: &str = "usage: oracle COMMAND
 where COMMAND is one of make-readings, readings, make-candidates, list-candidates, candidates,
-make-walks, walks, make-writes, writes, make-tests, tests, make-texts, texts, make-runs, runs, suite";
+make-walks, walks, make-writes, writes, make-tests, tests, make-texts, texts, make-runs, runs,
+make-outcome_calls, outcome_calls, suite";
 
 fn main() -> ExitCode {
     let command = std::env::args().nth(1).unwrap_or_default();
@@ -36,6 +39,8 @@ fn run(command: &str) -> Result<(), String> {
         "texts" => answer(texts::print_texts),
         "make-runs" => print(&generate::runs::make_runs()),
         "runs" => answer(runs::print_runs),
+        "make-outcome_calls" => print(&generate::outcome_calls::make_outcome_calls()),
+        "outcome_calls" => answer(outcome_calls::print_outcome_calls),
         "suite" => print(suite::print_suite(&standard_input()?).as_bytes()),
         _ => Err(USAGE.to_string()),
     }

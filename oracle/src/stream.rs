@@ -56,6 +56,12 @@ impl<'a> Stream<'a> {
         self.take(length.into())
     }
 
+    /// A length of one byte, then that many numbers of two bytes.
+    pub fn values(&mut self) -> Result<Vec<u16>, Malformed> {
+        let length = self.byte()?;
+        (0..length).map(|_| self.word()).collect()
+    }
+
     /// A length of two bytes, then that many bytes.
     pub fn frame(&mut self) -> Result<&'a [u8], Malformed> {
         let length = self.word()?;
@@ -67,6 +73,12 @@ impl<'a> Stream<'a> {
 pub fn push_list(stream: &mut Vec<u8>, bytes: &[u8]) {
     stream.push(u8::try_from(bytes.len()).expect("a list's length has one byte"));
     stream.extend(bytes);
+}
+
+/// Writes what `Stream::values` reads.
+pub fn push_values(stream: &mut Vec<u8>, values: &[u16]) {
+    stream.push(u8::try_from(values.len()).expect("a list's length has one byte"));
+    stream.extend(values.iter().flat_map(|value| value.to_le_bytes()));
 }
 
 /// Writes what `Stream::frame` reads.

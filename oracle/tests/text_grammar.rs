@@ -99,11 +99,8 @@ fn after(ways: &Ways, byte: u8) -> Ways {
     while let Some(mut way) = open.pop() {
         match way.pop() {
             None => {}
-            Some(Byte { from, to }) => {
-                if (from..=to).contains(&byte) {
-                    left.insert(way);
-                }
-            }
+            Some(Byte { from, to }) if (from..=to).contains(&byte) => drop(left.insert(way)),
+            Some(Byte { .. }) => {}
             Some(part) => {
                 for alternative in alternatives(part) {
                     let longer = way.iter().copied().chain(alternative.into_iter().rev());

@@ -167,6 +167,33 @@ impl fmt::Display for Answer {
     }
 }
 
+/// What a call for outcomes gives.
+#[derive(Clone, Copy, PartialEq, Eq, Hash, Debug)]
+pub enum Listing {
+    /// The least outcomes above the previous one; they are written one behind the other.
+    Listed {
+        /// How many outcomes are written.
+        outcomes: usize,
+        /// How many values each of them has.
+        values: usize,
+    },
+    /// No outcome is above the previous one; nothing is written.
+    NoneLeft,
+    /// The test has more clean prefixes than the allowance, whatever the previous outcome; nothing is written.
+    Spent,
+}
+
+impl fmt::Display for Listing {
+    fn fmt(&self, f: &mut fmt::Formatter) -> fmt::Result {
+        match self {
+            Listing::Listed { outcomes: 1, values } => write!(f, "an outcome of {values} values"),
+            Listing::Listed { outcomes, values } => write!(f, "{outcomes} outcomes of {values} values"),
+            Listing::NoneLeft => write!(f, "no outcome left"),
+            Listing::Spent => write!(f, "undecided, the allowance is spent"),
+        }
+    }
+}
+
 /// A step that the machine for RVTSO took.
 #[derive(Clone, Copy, PartialEq, Eq, Hash, Debug)]
 pub struct Taken {
@@ -224,6 +251,8 @@ mod tests {
         );
         assert_eq!(Verdict::Allowed.to_string(), "allowed");
         assert_eq!(Answer::NoneLeft { visited: 18 }.to_string(), "no witness left, 18 prefixes visited");
+        assert_eq!(Listing::Listed { outcomes: 1, values: 4 }.to_string(), "an outcome of 4 values");
+        assert_eq!(Listing::Listed { outcomes: 3, values: 4 }.to_string(), "3 outcomes of 4 values");
         assert_eq!(Taken { event: 3, entry: NOTHING }.to_string(), "event 3");
         assert_eq!(Taken { event: 3, entry: INITIALLY }.to_string(), "event 3, which returns the initial value");
         assert_eq!(Taken { event: 3, entry: 2 }.to_string(), "event 3, which returns from event 2");

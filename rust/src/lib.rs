@@ -48,6 +48,8 @@
 //! # Ok::<(), cogthunder::Refusal>(())
 //! ```
 //!
+//! Which outcomes a test has at all, whatever it states: [`Outcomes`].
+//!
 //! For tests of RVTSO there is a machine of single steps, with a store buffer for each hart: [`step`].
 
 #![deny(missing_docs)]
@@ -56,17 +58,19 @@ mod answers;
 mod edition_two;
 mod library;
 mod operation;
+mod outcomes;
 mod rules;
 mod suite;
 mod table;
 mod witnesses;
 
-pub use answers::{Answer, Axiom, Refusal, Taken, Verdict};
+pub use answers::{Answer, Axiom, Listing, Refusal, Taken, Verdict};
 pub use library::{
-    blocks, next_test, part, read, read_text, returns, rules, search, search_pruned, search_text, step, test_length,
-    verdict, write,
+    blocks, next_test, outcome, outcomes, part, read, read_text, returns, rules, search, search_pruned, search_text,
+    step, test_length, verdict, write,
 };
 pub use operation::Operation;
+pub use outcomes::{Outcomes, Unlisted};
 pub use rules::Rules;
 pub use suite::Tests;
 pub use table::{Accesses, Annotation, Event, Table};
@@ -84,7 +88,16 @@ pub const TEXT: usize = 2048;
 /// A test has at most this many events: room for any order and for any returned list. One of edition 1 has up to 16.
 pub const EVENTS: usize = 30;
 
-/// The largest allowance of a search.
+/// A test has at most this many locations.
+pub const LOCATIONS: usize = 8;
+
+/// An outcome has a value for each event that reads and for each location: at most this many.
+pub const VALUES: usize = EVENTS + LOCATIONS;
+
+/// No call lists more outcomes than this.
+pub const OUTCOMES: usize = 64;
+
+/// The largest allowance of a search, and of a call for outcomes.
 pub const LARGEST_ALLOWANCE: u64 = 1_000_000_000;
 
 /// In a returned list: the entry of an event that doesn't read.

@@ -1,6 +1,6 @@
 //! The proved functions, each answer of which is one word.
 
-use crate::answers::{Answer, Axiom, Refusal, Taken, Verdict};
+use crate::answers::{Answer, Axiom, Listing, Refusal, Taken, Verdict};
 use crate::rules::Rules;
 use crate::table::{Event, Table};
 
@@ -66,6 +66,26 @@ extern "C" {
     ) -> u64;
 
     fn ct_step(test: *const u8, test_len: usize, steps: *const u8, steps_len: usize, step: u64) -> u64;
+
+    fn ct_outcome(
+        test: *const u8,
+        test_len: usize,
+        previous: *const u16,
+        previous_len: usize,
+        out: *mut u16,
+        out_len: usize,
+        allowance: u64,
+    ) -> u64;
+
+    fn ct_outcomes(
+        test: *const u8,
+        test_len: usize,
+        previous: *const u16,
+        previous_len: usize,
+        out: *mut u16,
+        out_len: usize,
+        allowance: u64,
+    ) -> u64;
 
     fn ct_blocks(suite: *const u8, suite_len: usize) -> u64;
 
@@ -429,6 +449,78 @@ pub fn step(test: &[u8], steps: &[u8], step: u64) -> Result<Taken, Refusal> {
     }
 }
 
+/// The next outcome of a test: the values of each event that reads, in the order of the events, then the value that each location
+/// ends at, as some order that the rules allow gives them.
+///
+/// The reads and final values that the test states aren't asked for, and an AMO with an operation writes what this makes of the value
+/// that the order makes it return. `previous` is an earlier outcome, or empty for none; it may also be any other values, as many as an
+/// outcome has. The least outcome above it is written to the front of `out` ([`VALUES`](crate::VALUES) is enough room), and places past
+/// it stay. [`Listing::Spent`] is by the test and the allowance alone: the test has more clean prefixes. Refused by 1 to 11
+/// and 21; then by 12 if `previous` has another length, by 16 if `out` has too few places, and by 17.
+///
+/// [`Outcomes`](crate::Outcomes) has all outcomes one after the other.
+///
+/// ```
+/// use cogthunder::{outcome, Listing, VALUES};
+///
+/// // Message passing: events 2 and 3 read, and there are two locations.
+/// let block = include_bytes!(concat!(env!("CARGO_MANIFEST_DIR"), "/../samples/C1.block"));
+/// let mut out = [9; VALUES];
+/// assert_eq!(outcome(block, &[], &mut out, 64)?, Listing::Listed { outcomes: 1, values: 4 });
+/// assert_eq!(out[..5], [0, 0, 1, 1, 9]);
+/// outcome(block, &[0, 1, 7, 7], &mut out, 64)?;
+/// assert_eq!(out[..4], [1, 0, 1, 1]);
+/// assert_eq!(outcome(block, &[1, 1, 1, 1], &mut out, 64)?, Listing::NoneLeft);
+/// assert_eq!(outcome(block, &[], &mut out, 63)?, Listing::Spent);
+/// assert_eq!(outcome(block, &[0, 0], &mut out, 64).unwrap_err().number, 12);
+/// # Ok::<(), cogthunder::Refusal>(())
+/// ```
+pub fn outcome(test: &[u8], previous: &[u16], out: &mut [u16], allowance: u64) -> Result<Listing, Refusal> {
+    let word = unsafe {
+        ct_outcome(test.as_ptr(), test.len(), previous.as_ptr(), previous.len(), out.as_mut_ptr(), out.len(), allowance)
+    };
+    listed(word, |_| 1)
+}
+
+/// The next outcomes at once, which takes no longer than the next one: as many as there are and `out` has room for, at most
+/// [`OUTCOMES`](crate::OUTCOMES), ascending, one behind the other. All else is as for [`outcome`].
+///
+/// ```
+/// use cogthunder::{outcomes, Listing};
+///
+/// let block = include_bytes!(concat!(env!("CARGO_MANIFEST_DIR"), "/../samples/C1.block"));
+/// let mut out = [0; 12];
+/// assert_eq!(outcomes(block, &[], &mut out, 64)?, Listing::Listed { outcomes: 3, values: 4 });
+/// assert_eq!(out, [0, 0, 1, 1, 0, 1, 1, 1, 1, 0, 1, 1]);
+/// assert_eq!(outcomes(block, &[1, 0, 1, 1], &mut out, 64)?, Listing::Listed { outcomes: 1, values: 4 });
+/// assert_eq!(out[..4], [1, 1, 1, 1]);
+/// # Ok::<(), cogthunder::Refusal>(())
+/// ```
+pub fn outcomes(test: &[u8], previous: &[u16], out: &mut [u16], allowance: u64) -> Result<Listing, Refusal> {
+    let word = unsafe {
+        ct_outcomes(
+            test.as_ptr(),
+            test.len(),
+            previous.as_ptr(),
+            previous.len(),
+            out.as_mut_ptr(),
+            out.len(),
+            allowance,
+        )
+    };
+    listed(word, |word| (word >> u32::BITS) as usize)
+}
+
+/// What the word of a call for outcomes says, with how many outcomes that is.
+fn listed(word: u64, outcomes: fn(u64) -> usize) -> Result<Listing, Refusal> {
+    match parts(word)? {
+        [FOUND, values, ..] => Ok(Listing::Listed { outcomes: outcomes(word), values: values.into() }),
+        [NONE_LEFT, ..] => Ok(Listing::NoneLeft),
+        [SPENT, ..] => Ok(Listing::Spent),
+        _ => unreachable!("a call for outcomes has no other case"),
+    }
+}
+
 /// How many blocks a suite has; a last part block counts. Its tests are [`Tests`](crate::Tests).
 ///
 /// ```
@@ -592,6 +684,25 @@ mod tests {
         // Another model, and a test that is refused before.
         assert_eq!(refusal(include_bytes!("../../samples/C1.block"), &[], 0), Err(24));
         assert_eq!(refusal(&block[1..], &[9], 9), Err(1));
+    }
+
+    #[test]
+    fn the_word_of_outcomes_has_their_number_and_that_of_their_values() {
+        let block = include_bytes!("../../samples/C1.block");
+        let call = |previous: &[u16], places: usize, allowance: u64| {
+            let mut out = vec![9; places];
+            [ct_outcome, ct_outcomes].map(|entry| unsafe {
+                let (from, to) = (previous.as_ptr(), out.as_mut_ptr());
+                entry(block.as_ptr(), block.len(), from, previous.len(), to, places, allowance).to_le_bytes()
+            })
+        };
+        assert_eq!(call(&[], 15, 64), [[FOUND, 4, 0, 0, 0, 0, 0, 0], [FOUND, 4, 0, 0, 3, 0, 0, 0]]);
+        assert_eq!(call(&[1; 4], 15, 64), [[NONE_LEFT, 0, 0, 0, 0, 0, 0, 0]; 2]);
+        assert_eq!(call(&[1; 4], 15, 63), [[SPENT, 0, 0, 0, 0, 0, 0, 0]; 2]);
+        let refusals = [(&[1; 3][..], 0, 12), (&[1; 4], 3, 16), (&[], 4, 17)];
+        for (previous, places, number) in refusals {
+            assert_eq!(call(previous, places, u64::MAX), [[REFUSED, number, NO_RECORD, 0, 0, 0, 0, 0]; 2]);
+        }
     }
 
     #[test]

@@ -4,10 +4,7 @@ use crate::answers::Refusal;
 use crate::edition_two;
 use crate::library::{read, table_of, write};
 use crate::operation::Operation;
-use crate::BLOCK;
-
-/// How many locations a table has values for.
-const LOCATIONS: usize = 8;
+use crate::{BLOCK, LOCATIONS};
 
 /// How many events a table has room for. No test has as many, so that the last slot is that of no event.
 const SLOTS: usize = 32;

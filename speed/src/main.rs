@@ -2,6 +2,8 @@
 
 mod facts;
 mod kept;
+mod listing;
+mod outcomes;
 mod plain;
 mod proved;
 mod pruned;
@@ -130,12 +132,13 @@ fn time_readings(edition: u8, kinds: &[Vec<u8>]) {
 }
 
 /// With the path of the proved suite program it times both of them too. With a word it is the suite program, or times the
-/// second engine or texts.
+/// second engine, texts or outcomes.
 fn main() {
     match std::env::args().nth(1).as_deref() {
         Some(suite::COMMAND) => return suite::run(),
         Some(pruned::COMMAND) => return pruned::run(),
         Some(texts::COMMAND) => return texts::run(),
+        Some(outcomes::COMMAND) => return outcomes::run(),
         _ => {}
     }
     time_shapes();

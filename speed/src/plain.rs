@@ -40,7 +40,7 @@ impl Facts {
     }
 
     /// The event may be returned from, or may return, and write where it stands: rules 2, 3 and 12, and atomicity.
-    fn may_place(&self, e: usize, placed: u32) -> bool {
+    pub fn may_place(&self, e: usize, placed: u32) -> bool {
         let missing = self.own[e] & !placed;
         if missing != 0 && self.needs[highest(missing)] & !placed != 0 {
             return false;
@@ -183,6 +183,34 @@ fn walk<const PRUNED: bool>(facts: &Facts, start: &[u8], out: &mut [u8], allowan
         } else if facts.is_witness(&path.order[..total]) {
             out[..total].copy_from_slice(&path.order[..total]);
             return Some(Answer::Found { len, visited });
+        }
+    }
+}
+
+/// Calls `each` with every clean order of all memory events, ascending. False if there are more clean prefixes than may be visited.
+pub fn each_order(facts: &Facts, allowance: u64, mut each: impl FnMut(&[u8])) -> bool {
+    let total = facts.memory.count_ones() as usize;
+    let mut path: Path<false> = Path::empty(facts);
+    let mut visited = 0;
+    loop {
+        if path.later == 0 {
+            if path.keep == 0 {
+                return true;
+            }
+            path.leave(facts);
+            continue;
+        }
+        if visited == allowance {
+            return false;
+        }
+        let e = path.later.trailing_zeros() as usize;
+        path.later &= path.later - 1;
+        path.order[path.keep] = e as u8;
+        visited += 1;
+        if path.keep + 1 < total {
+            path.enter(facts, e);
+        } else {
+            each(&path.order[..total]);
         }
     }
 }

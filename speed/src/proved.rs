@@ -1,5 +1,6 @@
-//! The proved searches and reading, by their signatures for C.
+//! The proved searches, outcomes and reading, by their signatures for C.
 
+use crate::listing::Listing;
 use crate::plain::Answer;
 use crate::reading::Refusal;
 use crate::text::Refused;
@@ -24,6 +25,16 @@ extern "C" {
         start: *const u8,
         start_len: usize,
         out: *mut u8,
+        out_len: usize,
+        allowance: u64,
+    ) -> u64;
+
+    fn ct_outcomes(
+        block: *const u8,
+        block_len: usize,
+        previous: *const u16,
+        previous_len: usize,
+        out: *mut u16,
         out_len: usize,
         allowance: u64,
     ) -> u64;
@@ -97,6 +108,29 @@ pub fn search_pruned(block: &[u8], start: &[u8], out: &mut [u8], allowance: u64)
             allowance,
         )
     })
+}
+
+/// The next outcomes of a block.
+pub fn outcomes(block: &[u8], previous: &[u16], out: &mut [u16], allowance: u64) -> Result<Listing, Refusal> {
+    // Each pointer is that of a slice, beside its length.
+    let word = unsafe {
+        ct_outcomes(
+            block.as_ptr(),
+            block.len(),
+            previous.as_ptr(),
+            previous.len(),
+            out.as_mut_ptr(),
+            out.len(),
+            allowance,
+        )
+    };
+    let [case, first, second, ..] = word.to_le_bytes();
+    match case {
+        FOUND => Ok(Listing::Listed { outcomes: (word >> 32) as usize, values: first.into() }),
+        NONE_LEFT => Ok(Listing::NoneLeft),
+        SPENT => Ok(Listing::Spent),
+        _ => Err(refused(first, second)),
+    }
 }
 
 fn refused_text(word: u64) -> Refused {

@@ -225,19 +225,25 @@ pub fn form_broken<M: Mask>(e: &Event<M>, harts: u8, locations: u8) -> bool {
         || e.kind == FENCE_TSO && e.flags != 0
 }
 
+/// What an AMO's operation makes of the value read; nothing where there is no such operation.
+pub fn applied(operation: u8, read: u16, operand: u8) -> Option<u16> {
+    let operand = u16::from(operand);
+    Some(match operation {
+        ADD => read.wrapping_add(operand),
+        AND => read & operand,
+        OR => read | operand,
+        XOR => read ^ operand,
+        LARGER => read.max(operand),
+        SMALLER => read.min(operand),
+        _ => return None,
+    })
+}
+
 fn operation_broken<M>(e: &Event<M>) -> bool {
-    let operand = u16::from(e.operand);
-    let written = match e.operation {
-        NO_OPERATION => return operand != 0,
-        ADD => e.read.wrapping_add(operand),
-        AND => e.read & operand,
-        OR => e.read | operand,
-        XOR => e.read ^ operand,
-        LARGER => e.read.max(operand),
-        SMALLER => e.read.min(operand),
-        _ => return true,
-    };
-    e.kind != AMO || e.written != written
+    if e.operation == NO_OPERATION {
+        return e.operand != 0;
+    }
+    e.kind != AMO || applied(e.operation, e.read, e.operand) != Some(e.written)
 }
 
 fn annotations_broken<M>(e: &Event<M>) -> bool {

@@ -9,6 +9,8 @@ use Rattle.text.specs.declared.TextRefusal.{TextRefusal}
 use Rattle.text.specs.declared.TextRefusal.the-variants as text
 use Rattle.bench.specs.declared.TextReply.{TextReply}
 use Rattle.bench.specs.declared.TextReply.the-variants.{Illegal, Searched}
+use Rattle.outcome_listing.specs.declared.OutcomeReply.{OutcomeReply}
+use Rattle.outcome_listing.specs.declared.OutcomeReply.the-variants as outcome
 use Rattle.answer_word.specs.Words.{word, noRecord, refusalWord}
 
 abbrev pub endingWord : Ending → ℕ
@@ -23,6 +25,13 @@ givenWord (Answered o) = endingWord o
 abbrev pub textGivenWord : TextReply → ℕ
 textGivenWord (Illegal n place) = word 1 n noRecord 0 place
 textGivenWord (Searched r) = givenWord r
+
+-- the word of a reply that lists outcomes, by the numbers that it says
+abbrev pub listedWord : (told : ℕ → ℕ) → OutcomeReply → ℕ
+listedWord told (outcome.Refused r) = refusalWord (refusalOf r)
+listedWord told (outcome.Listed n w) = word 7 w 0 0 (told n)
+listedWord told outcome.NoneLeft = word 8 0 0 0 0
+listedWord told outcome.Spent = word 9 0 0 0 0
 
 -- a length below a byte's bound, a visited number below that of four bytes
 abbrev pub EndingFits : Ending → Type 0

@@ -8,6 +8,8 @@ use Rattle.refusals.specs.Lines.{Refused, accepted, byLine, byRecord, byPlace}
 use Rattle.model.specs.Verdict.{Verdict, allowed, brokenPpo, brokenLoadValue, brokenAtomicity, brokenValueRead, brokenFinalValue}
 use Rattle.prefixes.specs.Answer.{Answer, found, noneLeft, spent}
 use Rattle.steps.specs.Replies.{StepAnswer}
+use Rattle.outcomes.specs.Outcomes.{Listing, given, noneLeft as noneOther, spent as exceeded}
+use Rattle.outcome_listing.specs.Replies.{valuesIn}
 
 unfoldable pub word : (kind a b d visited : ℕ) → ℕ
 word kind a b d visited = kind + 256 * a + 65536 * b + 16777216 * d + 4294967296 * visited
@@ -64,3 +66,18 @@ answerWord (spent p v) = word 9 (length p) 0 0 v
 abbrev pub replyWord : Reply Refused Answer → ℕ
 replyWord (refused r) = refusalWord r
 replyWord (answered a) = answerWord a
+
+-- 7: outcomes, with the number of values of one, and that of the outcomes (0: it isn't told); 8: none left; 9: spent
+abbrev pub listingWord : (told : ℕ → ℕ) → Reply Refused Listing → ℕ
+listingWord told (refused r) = refusalWord r
+listingWord told (answered (given os)) = word 7 (valuesIn (answered (given os))) 0 0 (told (length os))
+listingWord told (answered noneOther) = word 8 0 0 0 0
+listingWord told (answered exceeded) = word 9 0 0 0 0
+
+-- the next outcome
+abbrev pub outcomeWord : Reply Refused Listing → ℕ
+outcomeWord r = listingWord (λ n. 0) r
+
+-- the next outcomes, with their number
+abbrev pub outcomesWord : Reply Refused Listing → ℕ
+outcomesWord r = listingWord (λ n. n) r

@@ -1,5 +1,6 @@
 // An answer as one word of 64 bits, for C.
 use bench::TextReply;
+use outcome_listing::OutcomeReply;
 use pair_rules::PairRules;
 use refusals::Refusal;
 use search::Reply;
@@ -17,7 +18,7 @@ ghost use Rattle.pair_rules.specs.PairRules.{ruledOf};
 ghost use Rattle.steps.specs.Replies.{stepOf};
 ghost use Rattle.answer_word.specs.Words.{word, refusalWord, rulesMask, lowestOf, verdictWord, judgedWord, ruledWord, stepWord};
 ghost use Rattle.text.specs.TextRefusals.{textRefusalOf};
-ghost use Rattle.answer_word.specs.Given.{endingWord, givenWord, textGivenWord, EndingFits, GivenFits, PlaceFits, TextGivenFits};
+ghost use Rattle.answer_word.specs.Given.{endingWord, givenWord, listedWord, textGivenWord, EndingFits, GivenFits, PlaceFits, TextGivenFits};
 
 // The case of an answer: byte 0 of its word.
 struct Case;
@@ -190,5 +191,34 @@ pub fn text_reply_word(reply: TextReply) -> u64
             place as u64,
         ),
         TextReply::Searched(searched) => reply_word(searched),
+    }
+}
+
+pub fn outcome_word(reply: OutcomeReply) -> u64
+    ensures { λ r. ⌜ r ≡ listedWord (λ n. 0) reply ⌝ }
+{
+    match reply {
+        OutcomeReply::Refused(refusal) => refusal_word(refusal),
+        OutcomeReply::Listed { outcomes, values } => word(Case::FOUND, values, 0, 0, 0),
+        OutcomeReply::NoneLeft => word(Case::NONE_LEFT, 0, 0, 0, 0),
+        OutcomeReply::Spent => word(Case::SPENT, 0, 0, 0, 0),
+    }
+}
+
+// The same with the number of outcomes as the upper half of the word.
+pub fn outcomes_word(reply: OutcomeReply) -> u64
+    ensures { λ r. ⌜ r ≡ listedWord (λ n. n) reply ⌝ }
+{
+    match reply {
+        OutcomeReply::Refused(refusal) => refusal_word(refusal),
+        OutcomeReply::Listed { outcomes, values } => word(
+            Case::FOUND,
+            values,
+            0,
+            0,
+            outcomes as u64,
+        ),
+        OutcomeReply::NoneLeft => word(Case::NONE_LEFT, 0, 0, 0, 0),
+        OutcomeReply::Spent => word(Case::SPENT, 0, 0, 0, 0),
     }
 }

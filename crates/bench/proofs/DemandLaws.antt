@@ -28,10 +28,14 @@ use Rattle.bench.specs.Candidate.{verdictLines, verdictOf, returnsLines,
 use Rattle.bench.specs.PairRules.{rulesLines, rulesOf}
 use Rattle.bench.specs.Steps.{machineLines, machineReply}
 use Rattle.bench.specs.Search.{ofBlock, ofBlockPruned, refusalTo, replyTo, bufferLeft, searchLines, prunedLines, ofText, textSearchLines}
-use Rattle.bench.specs.Demands.{refusalIn, Unaltered, Demand1, Demand2, Demands, StepMachine}
+use Rattle.outcomes.specs.Outcomes.{Listing}
+use Rattle.outcome_listing.specs.Replies.{placesAfter}
+use Rattle.bench.specs.Outcomes.{listingLines, listingReply, listingBuffer}
+use Rattle.bench.specs.Demands.{refusalIn, Unaltered, Demand1, Demand2, Demands, StepMachine, OutcomesListed}
 use Rattle.bench.proofs.EntryLaws.{tso-read}
 use Rattle.bench.proofs.ReplyLaws.{block-sound, pruned-sound, text-sound}
 use Rattle.bench.proofs.Demand3Laws.{demand3}
+use Rattle.bench.proofs.OutcomeLaws.{every-outcome}
 
 -- the refusal in a reply is the one by which it was refused
 refusal-in : {A : Type 0} (r : Refused) (a : A) → refusalIn (replyUnless r a) ≡ r
@@ -47,12 +51,19 @@ reply-unaltered (byLine n) a out h = refl
 reply-unaltered (byRecord n k) a out h = refl
 reply-unaltered (byPlace n p) a out h = refl
 
+-- and so does a refused listing
+listing-unaltered : (r : Refused) (a : Listing) (out : List ℕ) → Unaltered (refusalIn (replyUnless r a)) out (placesAfter (replyUnless r a) out)
+listing-unaltered accepted a out h = absurd (h refl)
+listing-unaltered (byLine n) a out h = refl
+listing-unaltered (byRecord n k) a out h = refl
+listing-unaltered (byPlace n p) a out h = refl
+
 -- the answer's refusal is exactly that of its lines
 exactly-of : (n : ℕ) (ls : List Line) (r : Refused) → r ≡ firstLine n ls → Exactly n ls r
 exactly-of n ls r e = subst (Exactly n ls) (sym e) (first-exactly n ls)
 
 demand1 : (s : List ℕ) (t : Table) (rf gmo start out : List ℕ) (a b allowance k : ℕ) → Demand1 s t rf gmo start out a b allowance k
-unfolding readRefusal textRefusal writeRefusal writtenBlock verdictOf rulesOf machineReply returnsRefusal returnsBuffer refusalTo replyTo bufferLeft
+unfolding readRefusal textRefusal writeRefusal writtenBlock verdictOf rulesOf machineReply listingReply listingBuffer returnsRefusal returnsBuffer refusalTo replyTo bufferLeft
 demand1 s t rf gmo start out a b allowance k = record {
   read = first-exactly _ (readingLines s);
   write = first-exactly _ (writingLines t out);
@@ -66,6 +77,8 @@ demand1 s t rf gmo start out a b allowance k = record {
   search-unaltered = reply-unaltered (refusalTo (ofBlock s) start out allowance) _ out;
   pruned = exactly-of _ (prunedLines s start out allowance) _ (refusal-in _ _);
   pruned-unaltered = reply-unaltered (refusalTo (ofBlockPruned s) start out allowance) _ out;
+  outcome = λ most p. exactly-of _ (listingLines s p out allowance) _ (refusal-in _ _);
+  outcome-unaltered = λ most p. listing-unaltered (firstLine (decoded s .count) (listingLines s p out allowance)) _ out;
   text = first-exactly _ (textLines s);
   text-search = exactly-of _ (textSearchLines s start out allowance) _ (refusal-in _ _);
   text-unaltered = reply-unaltered (refusalTo (ofText s) start out allowance) _ out;
@@ -103,3 +116,6 @@ demands = (
 
 pub step-machine : StepMachine
 step-machine s ok tso = (machine-right (tso-read s ok tso), buffers-right (tso-read s ok tso))
+
+pub outcomes-listed : OutcomesListed
+outcomes-listed = every-outcome

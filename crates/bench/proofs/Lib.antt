@@ -3,3 +3,4 @@ pub mod ReplyLaws
 pub mod Demand3Laws
 pub mod EngineLaws
 pub mod DemandLaws
+pub mod OutcomeLaws

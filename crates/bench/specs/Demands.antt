@@ -30,6 +30,7 @@ use Rattle.search.specs.Replies.{replyOf, lengthOf, prefixLength}
 use Rattle.bench.specs.Candidate.{verdictLines, verdictOf, returnsLines, returnsRefusal, returnsBuffer}
 use Rattle.bench.specs.PairRules.{rulesLines, rulesOf}
 use Rattle.bench.specs.Steps.{machineLines, machineReply}
+use Rattle.bench.specs.Outcomes.{listingLines, listingReply, listingBuffer, OutcomeCall, OutcomeCalls, EveryOutcome}
 use Rattle.bench.specs.Search.{Searched, ofBlock, ofBlockPruned, replyTo, bufferLeft, searchLines, searchReply, searchBuffer}
 use Rattle.bench.specs.Search.{prunedLines, prunedReply, prunedBuffer, ofText, textSearchLines, textReply, textBuffer}
 
@@ -68,6 +69,11 @@ module _ (s : List ℕ) (t : Table) (rf gmo start out : List ℕ) (a b allowance
     -- the same by the second engine, whose line 15 is over its own list
     pub pruned : Exactly (decoded s .count) (prunedLines s start out allowance) (refusalIn (prunedReply s start out allowance))
     pub pruned-unaltered : Unaltered (refusalIn (prunedReply s start out allowance)) out (prunedBuffer s start out allowance)
+    -- outcomes listed, of at most `most`: lines 1 to 11, 21, 12, 16 and 17; previous: the outcome that was given last
+    pub outcome : (most : ℕ) (previous : List ℕ) →
+        Exactly (decoded s .count) (listingLines s previous out allowance) (refusalIn (listingReply most s previous out allowance))
+    pub outcome-unaltered : (most : ℕ) (previous : List ℕ) →
+        Unaltered (refusalIn (listingReply most s previous out allowance)) out (listingBuffer most s previous out allowance)
     -- reading a text: line 1, the first breach by 19 or 20 with its place, lines 5 to 11, 23 and 21
     pub text : Exactly (tableOfText s .count) (textLines s) (textRefusal s)
     -- a search of a text: these, and lines 15 to 17
@@ -194,3 +200,7 @@ BothEngines =
 abbrev pub StepMachine : Type 0
 StepMachine =
     (s : List ℕ) → readRefusal s ≡ accepted → decoded s .model ≡ rvtso → MachineRight (decoded s) × BuffersRight (decoded s)
+
+-- "Outcomes come in ascending order, each once": one claim over any list of calls on the same bytes
+abbrev pub OutcomesListed : Type 0
+OutcomesListed = (s : List ℕ) (cs : List OutcomeCall) → OutcomeCalls s [] cs → EveryOutcome s cs

@@ -3,4 +3,5 @@ pub mod Search
 pub mod TextReplies
 pub mod PairRules
 pub mod Steps
+pub mod Outcomes
 pub mod Demands

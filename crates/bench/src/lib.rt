@@ -1,5 +1,6 @@
 // The public entries on bytes. Each takes any bytes, lists and numbers, refuses for itself, and has no `requires`.
 use block::Reading;
+use outcome_listing::OutcomeReply;
 use pair_rules::PairRules;
 use refusals::Refusal;
 use search::Reply;
@@ -7,6 +8,7 @@ use steps::StepReply;
 use table::Table;
 use text::TextRefusal;
 use verdict::Verdict;
+ghost use Prim.Native.Nat.{_≤_};
 ghost use mathlib.Core.Path.{_≡_};
 ghost use Rattle.refusals.specs.Refusals.{refusalOf};
 ghost use Rattle.block.specs.Reading.{readRefusal, readTable};
@@ -20,6 +22,8 @@ ghost use Rattle.bench.specs.Candidate.{verdictOf, returnsRefusal, retur
 ghost use Rattle.bench.specs.PairRules.{rulesOf};
 ghost use Rattle.steps.specs.Replies.{stepOf};
 ghost use Rattle.bench.specs.Steps.{machineReply};
+ghost use Rattle.outcome_listing.specs.Replies.{mostOutcomes, listingOf, valuesIn, valuesOf};
+ghost use Rattle.bench.specs.Outcomes.{listingReply, listingBuffer, outcomeReply, outcomeBuffer, outcomesReply, outcomesBuffer};
 ghost use Rattle.text.specs.Texts.{textRefusal, textTable};
 ghost use Rattle.text.specs.TextRefusals.{textRefusalOf};
 ghost use Rattle.bench.specs.Search.{searchReply, searchBuffer, prunedReply, prunedBuffer, textReply, textBuffer};
@@ -162,6 +166,47 @@ pub fn search_pruned(bytes: &[u8], start: &[u8], out: &mut [u8], allowance: u64)
         Refusal::Line(n) => Reply::Refused(Refusal::Line(n)),
         Refusal::Record(n, record) => Reply::Refused(Refusal::Record(n, record)),
     }
+}
+
+// The outcomes that come next, at most so many.
+fn next_outcomes(
+    bytes: &[u8],
+    previous: &[u16],
+    out: &mut [u16],
+    most: usize,
+    allowance: u64,
+) -> OutcomeReply
+    requires { ⌜ most ≤ mostOutcomes ⌝ }
+    ensures { λ r. ⌜ listingOf r (now (out .exit)) ≡ listingReply most (now (bytes .entry)) (now (previous .entry)) (now (out .entry)) allowance ⌝ }
+    ensures { λ r. ⌜ now (out .exit) ≡ listingBuffer most (now (bytes .entry)) (now (previous .entry)) (now (out .entry)) allowance ⌝ }
+    ensures { λ r. ⌜ valuesOf r ≡ valuesIn (listingReply most (now (bytes .entry)) (now (previous .entry)) (now (out .entry)) allowance) ⌝ }
+{
+    let reading = block::read(bytes);
+    let refusal = reading.refusal;
+    let t = reading.table;
+    match refusal {
+        Refusal::None => outcome_listing::list(t, previous, out, most, allowance),
+        Refusal::Line(n) => OutcomeReply::Refused(Refusal::Line(n)),
+        Refusal::Record(n, k) => OutcomeReply::Refused(Refusal::Record(n, k)),
+    }
+}
+
+// The least outcome above the previous one that some lawful order gives; an empty list stands for none.
+pub fn outcome(bytes: &[u8], previous: &[u16], out: &mut [u16], allowance: u64) -> OutcomeReply
+    ensures { λ r. ⌜ listingOf r (now (out .exit)) ≡ outcomeReply (now (bytes .entry)) (now (previous .entry)) (now (out .entry)) allowance ⌝ }
+    ensures { λ r. ⌜ now (out .exit) ≡ outcomeBuffer (now (bytes .entry)) (now (previous .entry)) (now (out .entry)) allowance ⌝ }
+    ensures { λ r. ⌜ valuesOf r ≡ valuesIn (outcomeReply (now (bytes .entry)) (now (previous .entry)) (now (out .entry)) allowance) ⌝ }
+{
+    next_outcomes(bytes, previous, out, 1, allowance)
+}
+
+// The same of as many outcomes as the buffer has room for, 64 at most, one behind the other: one walk serves for all of them.
+pub fn outcomes(bytes: &[u8], previous: &[u16], out: &mut [u16], allowance: u64) -> OutcomeReply
+    ensures { λ r. ⌜ listingOf r (now (out .exit)) ≡ outcomesReply (now (bytes .entry)) (now (previous .entry)) (now (out .entry)) allowance ⌝ }
+    ensures { λ r. ⌜ now (out .exit) ≡ outcomesBuffer (now (bytes .entry)) (now (previous .entry)) (now (out .entry)) allowance ⌝ }
+    ensures { λ r. ⌜ valuesOf r ≡ valuesIn (outcomesReply (now (bytes .entry)) (now (previous .entry)) (now (out .entry)) allowance) ⌝ }
+{
+    next_outcomes(bytes, previous, out, sorted_rows::MOST, allowance)
 }
 
 // What reading a text gives.

@@ -1,3 +1,4 @@
 pub mod PlaceLaws
 pub mod FitLaws
 pub mod PartLaws
+pub mod OutcomeLaws

@@ -10,9 +10,10 @@ ghost use Rattle.suite_walk.specs.Tests.{testLengthAt, nextBlock};
 ghost use Rattle.bench.specs.Candidate.{verdictOf, returnsRefusal, returnsBuffer};
 ghost use Rattle.bench.specs.PairRules.{rulesOf};
 ghost use Rattle.bench.specs.Steps.{machineReply};
+ghost use Rattle.bench.specs.Outcomes.{outcomeReply, outcomeBuffer, outcomesReply, outcomesBuffer};
 ghost use Rattle.text.specs.Texts.{textRefusal, textTable};
 ghost use Rattle.bench.specs.Search.{searchReply, searchBuffer, prunedReply, prunedBuffer, textReply, textBuffer};
-ghost use Rattle.answer_word.specs.Words.{refusalWord, judgedWord, ruledWord, stepWord, replyWord};
+ghost use Rattle.answer_word.specs.Words.{refusalWord, judgedWord, ruledWord, stepWord, outcomeWord, outcomesWord, replyWord};
 ghost use Rattle.capi.specs.Parts.{partRefusal, partOffset, partLength};
 
 // Reading a block.
@@ -65,6 +66,29 @@ pub extern "C" fn ct_step(block: &[u8], steps: &[u8], step: u64) -> u64
     ensures { λ r. ⌜ r ≡ stepWord (machineReply (now (block .entry)) (now (steps .entry)) step) ⌝ }
 {
     answer_word::step_word(bench::step(block, steps, step))
+}
+
+// The least outcome above the previous one that some lawful order gives.
+#[no_mangle]
+pub extern "C" fn ct_outcome(block: &[u8], previous: &[u16], out: &mut [u16], allowance: u64) -> u64
+    ensures { λ r. ⌜ r ≡ outcomeWord (outcomeReply (now (block .entry)) (now (previous .entry)) (now (out .entry)) allowance) ⌝ }
+    ensures { λ r. ⌜ now (out .exit) ≡ outcomeBuffer (now (block .entry)) (now (previous .entry)) (now (out .entry)) allowance ⌝ }
+{
+    answer_word::outcome_word(bench::outcome(block, previous, out, allowance))
+}
+
+// As many of the next outcomes as the buffer has room for, 64 at most.
+#[no_mangle]
+pub extern "C" fn ct_outcomes(
+    block: &[u8],
+    previous: &[u16],
+    out: &mut [u16],
+    allowance: u64,
+) -> u64
+    ensures { λ r. ⌜ r ≡ outcomesWord (outcomesReply (now (block .entry)) (now (previous .entry)) (now (out .entry)) allowance) ⌝ }
+    ensures { λ r. ⌜ now (out .exit) ≡ outcomesBuffer (now (block .entry)) (now (previous .entry)) (now (out .entry)) allowance ⌝ }
+{
+    answer_word::outcomes_word(bench::outcomes(block, previous, out, allowance))
 }
 
 // Writes the returned list that an order determines.

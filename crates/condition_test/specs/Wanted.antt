@@ -3,6 +3,7 @@ use Prim.Native.Nat.{ℕ}
 use mathlib.Core.Path.{_≡_}
 use mathlib.Core.Bool.{Bool, true, false}
 use mathlib.Core.List.{List, [], _∷_}
+use mathlib.Core.Logic.{_⊎_}
 use Rattle.table.specs.declared.Table.{Table}
 use Rattle.text_format.specs.Condition.{Condition, fits}
 use Rattle.condition_reader.specs.Words.{code}
@@ -22,10 +23,22 @@ pub record Conditioned (t : Table) (facts : List (List ℕ)) (words : List ℕ) 
   pub known : namesUnknown t condition ≡ false
   pub values : Values t facts
 
--- without words the outcome that the table states, else the condition of the words
+-- the one word that says that any order will do, of a kind that no word of a condition has
+abbrev pub anyNode : ℕ
+anyNode = 5
+
+abbrev pub anyWords : List ℕ
+anyWords = anyNode ∷ []
+
+-- any order will do
+abbrev pub anyOrder : List ℕ → Bool
+anyOrder gmo = true
+
+-- without words the outcome that the table states, else the condition of the words, or any order
 abbrev pub Wants : Table → List (List ℕ) → List ℕ → (List ℕ → Bool) → Type 0
 Wants t facts [] outcome = outcome ≡ statedOutcome t
-Wants t facts (w ∷ ws) outcome = Conditioned t facts (w ∷ ws) outcome
+Wants t facts (w ∷ ws) outcome =
+    Conditioned t facts (w ∷ ws) outcome ⊎ ((_≡_ {A = List ℕ} (w ∷ ws) anyWords) × (outcome ≡ anyOrder))
 
 -- r tells whether the clean order gmo is a witness of what is looked for, if kept was told of the order seen; after is told of next
 abbrev pub Witnesses : List (List ℕ) → (words gmo seen kept : List ℕ) → Bool → (next after : List ℕ) → Type 0

@@ -284,8 +284,11 @@ pub fn meets(
     run_on(facts, &left, words, order, len, kept)
 }
 
+// The one word that says that any order will do: of a kind that no word of a condition has.
+pub const ANY: u32 = 5;
+
 // The clean order at the front of the array is a witness: of the outcome that the table states, or, if there are words, of their
-// condition.
+// condition. Of the word `ANY` each lawful order is one.
 pub fn is_witness(
     facts: &[[u32; CAPACITY]; ROWS],
     words: &[u32],
@@ -300,6 +303,9 @@ pub fn is_witness(
 {
     if words.len() == 0 {
         return order_test::is_witness(facts, order, len);
+    }
+    if words[0] == ANY {
+        return order_test::is_lawful(facts, order, len);
     }
     if meets(facts, words, order, len, seen, kept) {
         order_test::is_lawful(facts, order, len)

@@ -14,3 +14,4 @@ pub mod LastLaws
 pub mod LatestLaws
 pub mod AscendingLaws
 pub mod QueueLaws
+pub mod BelowLaws

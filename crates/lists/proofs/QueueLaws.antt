@@ -10,7 +10,7 @@ use Rattle.lists.specs.Below.{upFrom, below}
 use Rattle.lists.specs.Lists.{kept, keep}
 
 -- none of the numbers from k on is kept
-kept-none : (f : ℕ → Bool) (k m : ℕ) → ((x : ℕ) → k ≤ x → f x ≡ false) → keep f (upFrom k m) ≡ []
+pub kept-none : (f : ℕ → Bool) (k m : ℕ) → ((x : ℕ) → k ≤ x → f x ≡ false) → keep f (upFrom k m) ≡ []
 unfolding upFrom
 kept-none f k zero h = refl
 kept-none f k (suc m) h = rw (h k (omega arith)) (kept-none f (suc k) m (λ x l. h x (omega arith)))

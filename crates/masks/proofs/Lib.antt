@@ -12,3 +12,4 @@ pub mod HighestLaws
 pub mod PickLaws
 pub mod SortLaws
 pub mod LeftLaws
+pub mod ListedLaws

@@ -9,7 +9,7 @@ use lib.ListN.{length}
 use lib.Dec.{eqb, ltb}
 use borrow.Author.Tests.{ltb-true, lt-ltb, eqb-true, eq-eqb, not-true, not-false}
 use Rattle.lists.specs.Below.{some, below}
-use Rattle.lists.specs.Lists.{_∈_, all, any, has, count, distinct, before}
+use Rattle.lists.specs.Lists.{_∈_, all, any, has, count, distinct, before, keep}
 use Rattle.lists.specs.Ascending.{AllAbove, Ascending}
 use Rattle.lists.proofs.BoolLaws.{and-l, and-r, or-implied}
 use Rattle.lists.proofs.ListLaws.{all-has}
@@ -225,13 +225,18 @@ module _ (t : Table) where
       let l = keep-only (λ q. eqb (length q) (memoryCount t)) (listed distinct (memoryEvents t) (memoryCount t)) p m in
       listed-only distinct (memoryEvents t) (memoryCount t) p (l .0) .0
 
+  -- Of a test that only orders pass: those listed are the nonempty ones.
+  pub orders-each : (f : List ℕ → Bool) → ((p : List ℕ) → f p ≡ true → isOrder t p ≡ true) → (gmo : List ℕ) →
+      (gmo ∈ keep f (orders t)) ↔ ((gmo ≢ []) × (f gmo ≡ true))
+  orders-each f h gmo = (
+    λ m. let r = keep-only f (orders t) gmo m in (orders-nonempty gmo (r .0), r .1),
+    λ k. keep-each f (orders t) gmo (order-listed gmo (k .0) (order-has gmo (h gmo (k .1)))) (k .1),
+  )
+
   -- The list of witnesses, by which the worked cases speak, has the witnesses and no other list.
   pub witnesses-each : (gmo : List ℕ) → (gmo ∈ witnesses t) ↔ ((gmo ≢ []) × (witness t gmo ≡ true))
   unfolding witnesses witness
-  witnesses-each gmo = (
-    λ m. let r = keep-only (witness t) (orders t) gmo m in (orders-nonempty gmo (r .0), r .1),
-    λ h. keep-each (witness t) (orders t) gmo (order-listed gmo (h .0) (order-has gmo (witness-order (statedOutcome t) gmo (h .1) .0))) (h .1),
-  )
+  witnesses-each = orders-each (witness t) (λ p h. witness-order (statedOutcome t) p h .0)
 
   -- The empty order is none, where there is a memory event (line 11).
   pub witnesses-exactly : (gmo : List ℕ) → some (t .count) (memory t) ≡ true → (gmo ∈ witnesses t) ↔ (witness t gmo ≡ true)

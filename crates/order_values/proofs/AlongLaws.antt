@@ -4,7 +4,7 @@ use native.Mathlib.Omega.{arith}
 use native.Mathlib.Nat.{mod-eq-of-lt}
 use native.Mathlib.Numerals.{add-one}
 use mathlib.Core.Path.{_≡_, refl, sym, ap, ap₂, subst, _∙_}
-use mathlib.Core.Bool.{Bool, true, false, cond, not, _&&_, _||_, xor, or-true, or-false}
+use mathlib.Core.Bool.{Bool, true, false, cond, not, _||_, or-true, or-false}
 use mathlib.Core.List.{List, [], _∷_, _++_}
 use lib.ListN.{length, getD, take, set, length-take, length-set}
 use lib.Seq.{take-suc, take-all, take-take, getD-set-same, getD-set-other, length-take-le}
@@ -16,9 +16,7 @@ use Rattle.lists.proofs.MemberLaws.{has-append}
 use Rattle.lists.proofs.FilledLaws.{length-upTo}
 use Rattle.masks.specs.Bit.{bit}
 use Rattle.masks.proofs.BitLaws.{bit-zero}
-use Rattle.masks.proofs.MaskOfLaws.{mask-below-lt}
-use Rattle.operation.specs.Operation.{noOperation, amoadd, amoand, amoor, amoxor, amomaxu, amominu, width, bitwise}
-use Rattle.operation.specs.Operation.{anded, ored, xored, larger, smaller, applied}
+use Rattle.operation.specs.Operation.{noOperation, applied}
 use Rattle.table.specs.declared.Table.{Table}
 use Rattle.table.specs.Events.{capacity, event, location, writes}
 use Rattle.model.specs.Returns.{returnOf, lastWrite}
@@ -35,6 +33,7 @@ use Rattle.order_test.proofs.PassLaws.{entry-is, entry-event}
 use Rattle.order_values.specs.Following.{Leaves}
 use Rattle.order_values.specs.ByFacts.{lastLeft, placeOf, writtenBy, leftBy}
 use Rattle.order_values.proofs.WordLaws.{all-first, order-events, place-is, written-is, action-is, last-told, last-narrow}
+use Rattle.order_values.proofs.NarrowLaws.{either-narrow, applied-narrow}
 
 module _ (facts : List (List ℕ)) (left p : List ℕ) (e : ℕ) where
   pub by-plain : mask facts actionRow e % 256 ≡ noOperation → mask facts writtenRow e ≡ leftBy facts left p e
@@ -47,28 +46,6 @@ module _ (facts : List (List ℕ)) (left p : List ℕ) (e : ℕ) where
   by-operation n x value r a b c =
       rw (ne-eqb (mask facts actionRow e % 256) noOperation n)
       (c ∙ ap (writtenBy (mask facts actionRow e)) (b ∙ ap (lastLeft facts left p) a))
-
--- one of two values is one
-either-narrow : (b : Bool) (x y : ℕ) → x < 2 ^ 16 → y < 2 ^ 16 → cond b x y < 2 ^ 16
-either-narrow true x y h k = h
-either-narrow false x y h k = k
-
--- what an operation gives is one
-applied-narrow : (operation value operand : ℕ) → value < 2 ^ 16 → operand < 2 ^ 8 → applied operation value operand < 2 ^ 16
-unfolding applied anded ored xored larger smaller
-applied-narrow operation value operand v o =
-    let sum : (value + operand) % 65536 < 2 ^ 16 = omega arith in
-    let wide : operand < 2 ^ 16 = omega arith in
-    let none : 0 < 2 ^ 16 = omega arith in
-    either-narrow (eqb operation amoadd) _ _ sum
-    (either-narrow (eqb operation amoand) _ _ (bits (λ k. bit value k && bit operand k))
-    (either-narrow (eqb operation amoor) _ _ (bits (λ k. bit value k || bit operand k))
-    (either-narrow (eqb operation amoxor) _ _ (bits (λ k. xor (bit value k) (bit operand k)))
-    (either-narrow (eqb operation amomaxu) _ _ (either-narrow (ltb value operand) _ _ wide v)
-    (either-narrow (eqb operation amominu) _ _ (either-narrow (ltb operand value) _ _ wide v) none)))))
-  where
-    bits : (f : ℕ → Bool) → bitwise f < 2 ^ 16
-    bits f = mask-below-lt f width width (omega arith)
 
 module _ (facts : List (List ℕ)) (order : List ℕ) (len : ℕ) where
   abbrev gmo : List ℕ

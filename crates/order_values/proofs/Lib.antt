@@ -1,4 +1,5 @@
 pub mod WordLaws
+pub mod NarrowLaws
 pub mod EndLaws
 pub mod AlongLaws
 pub mod ReadLaws

@@ -1,5 +1,5 @@
 -- The answer of a search call is that of a walk along the list; a larger allowance does not change a final answer.
-use Prim.Native.Nat.{ℕ, zero, suc, _+_, _≤_}
+use Prim.Native.Nat.{ℕ, zero, suc, _+_, _≤_, _<_}
 use native.Mathlib.Omega.{arith}
 use native.Mathlib.Numerals.{add-one}
 use native.Mathlib.Nat.{add-zero, zero-add}
@@ -62,3 +62,25 @@ module _ (goal : List ℕ → Bool) where
       answer goal l s c ≡ answer goal l s b
   larger-allowance l s b c h f =
       seek-answer l s c ∙ seek-larger l s b c 0 h (rw (← seek-answer l s b) f) ∙ sym (seek-answer l s b)
+
+  -- what an answer says of the numbers of a walk along the list, where b may be visited and n were
+  abbrev pub Counts : List (List ℕ) → ℕ → ℕ → Answer → Type 0
+  Counts l b n (found p v) = (n < v) × (v ≤ n + b)
+  Counts l b n (noneLeft v) = length l ≤ b
+  Counts l b n (spent p v) = b < length l
+
+  counts-more : (p : List ℕ) (l : List (List ℕ)) (b n : ℕ) (a : Answer) → Counts l b (suc n) a → Counts (p ∷ l) (suc b) n a
+  counts-more p l b n (found q v) h = (omega arith, omega arith)
+  counts-more p l b n (noneLeft v) h = omega arith
+  counts-more p l b n (spent q v) h = omega arith
+
+  pub seek-counts : (l : List (List ℕ)) (s : List ℕ) (b n : ℕ) → Counts l b n (seek goal l s b n)
+  unfolding seek
+  seek-counts [] s b n = omega arith
+  seek-counts (p ∷ l) s zero n = omega arith
+  seek-counts (p ∷ l) s (suc b) n = go (goal p) (counts-more p l b n (seek goal l p b (suc n)) (seek-counts l p b (suc n)))
+    where
+      go : (g : Bool) → Counts (p ∷ l) (suc b) n (seek goal l p b (suc n)) →
+          Counts (p ∷ l) (suc b) n (pick g (found p (suc n)) (seek goal l p b (suc n)))
+      go true h = (omega arith, omega arith)
+      go false h = h

@@ -20,16 +20,16 @@ use Rattle.prefixes.proofs.AnswerLaws.{seek-answer}
 
 module _ (goal : List ℕ → Bool) (l : List (List ℕ)) where
   -- from the start s to the start p: the witnesses between them are w, and the count of those visited went from n to v
-  record Moved (s : List ℕ) (n : ℕ) (w : List (List ℕ)) (p : List ℕ) (v : ℕ) : Type 0 where
-    witnesses : w ++ keep goal (after p l) ≡ keep goal (after s l)
-    count : v + length (after p l) ≡ n + length (after s l)
+  pub record Moved (s : List ℕ) (n : ℕ) (w : List (List ℕ)) (p : List ℕ) (v : ℕ) : Type 0 where
+    pub witnesses : w ++ keep goal (after p l) ≡ keep goal (after s l)
+    pub count : v + length (after p l) ≡ n + length (after s l)
 
   -- to stay where one is
-  stay : {s : List ℕ} {n : ℕ} → Moved s n [] s n
+  pub stay : {s : List ℕ} {n : ℕ} → Moved s n [] s n
   stay = record { witnesses = refl; count = refl }
 
   -- two moves, one after the other; the second counts from k
-  move-on : {s p q : List ℕ} {n v k t : ℕ} {w x : List (List ℕ)} → Moved s n w p v → Moved p k x q t →
+  pub move-on : {s p q : List ℕ} {n v k t : ℕ} {w x : List (List ℕ)} → Moved s n w p v → Moved p k x q t →
       (u : ℕ) → u + k ≡ v + t → Moved s n (w ++ x) q u
   move-on {s} {p} {q} {w = w} {x = x} f g u e = record {
     witnesses =
@@ -38,7 +38,7 @@ module _ (goal : List ℕ → Bool) (l : List (List ℕ)) where
   }
 
   -- what an answer says of a call from the start s, where n were visited before
-  abbrev Says : List ℕ → ℕ → Answer → Type 0
+  abbrev pub Says : List ℕ → ℕ → Answer → Type 0
   Says s n (found p v) = Moved s n (p ∷ []) p v
   Says s n (noneLeft v) = keep goal (after s l) ≡ []
   Says s n (spent p v) = Moved s n [] p v
@@ -61,7 +61,7 @@ module _ (goal : List ℕ → Bool) (l : List (List ℕ)) where
   answered-called s (spent p v) h = record { moved = h; ended = λ e. absurd (false≢true e) }
 
   -- what the walk along the list says, from the start s on
-  seek-says : Ascending l → (m : List (List ℕ)) (s : List ℕ) (b n : ℕ) → after s l ≡ m → Says s n (seek goal m s b n)
+  pub seek-says : Ascending l → (m : List (List ℕ)) (s : List ℕ) (b n : ℕ) → after s l ≡ m → Says s n (seek goal m s b n)
   unfolding seek
   seek-says a [] s b n e = ap (keep goal) e
   seek-says a (p ∷ m) s zero n e = stay

@@ -35,7 +35,7 @@ pub enum Reply {
 }
 
 // The largest allowance.
-const ALLOWANCE: u64 = 1_000_000_000;
+pub const ALLOWANCE: u64 = 1_000_000_000;
 
 // Copies the first len entries of the order to the front of the buffer.
 fn copy(order: &[u8; SLOTS], len: usize, out: &mut [u8])

@@ -20,11 +20,11 @@ the record's annotations don't go together: both acquires or both releases at on
 a dependency mask of the record is wrong: it names an event that isn't earlier on the same hart, or a plain store, or a fence; or it is a data mask on an event that doesn't write, or a control dependency that some later memory event of the hart lacks
 the SC isn't paired: the nearest earlier LR or SC on its hart isn't an LR to the same location
 the test has no memory event
-the order doesn't have one entry for each memory event, or the returned list doesn't have one entry for each event
+the order doesn't have one entry for each memory event, or the returned list doesn't have one entry for each event; or the previous outcome has values, and not one for each event that reads and each location
 the order doesn't name each memory event exactly once
 the returned list is wrong: an event that doesn't read needs the entry 254, and one that reads needs 255 (the initial value) or an event that writes to its location
 the search can't start there: the start isn't a clean prefix, a list of different memory events none of which stands without, or before, an event that the steady rules put before it; or, for the search that gives up early, a value is wrong before its last event
-the answer buffer is too short: a search needs a byte for each memory event, and a returned list a byte for each event
+the answer buffer is too short: a search needs a byte for each memory event, a returned list a byte for each event, and an outcome a place for each event that reads and each location
 the allowance is above 1,000,000,000
 the suite has no block of that number
 no legal text has this byte in this place, or the text ends too soon

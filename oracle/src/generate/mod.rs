@@ -15,6 +15,8 @@ pub mod machine_tables;
 pub mod models;
 pub mod operations;
 pub mod orders;
+pub mod outcome_calls;
+pub mod outcome_tables;
 pub mod prng;
 pub mod random;
 pub mod readings;

@@ -15,6 +15,7 @@ pub enum Subcommand {
     Explain,
     Convert,
     Step,
+    Outcomes,
     Report,
 }
 
@@ -75,6 +76,7 @@ impl Subcommand {
             "explain" => Some(Subcommand::Explain),
             "convert" => Some(Subcommand::Convert),
             "step" => Some(Subcommand::Step),
+            "outcomes" => Some(Subcommand::Outcomes),
             "report" => Some(Subcommand::Report),
             _ => None,
         }
@@ -87,6 +89,7 @@ impl Subcommand {
             Subcommand::Explain => help::EXPLAIN,
             Subcommand::Convert => help::CONVERT,
             Subcommand::Step => help::STEP,
+            Subcommand::Outcomes => help::OUTCOMES,
             Subcommand::Report => help::REPORT,
         }
     }
@@ -98,7 +101,8 @@ impl Subcommand {
             "-v" | "--verbose" | "--herd" | "--expect" => self == Subcommand::Decide,
             "--svg" | "--dot" => self == Subcommand::Show,
             "-o" | "--output" => [Subcommand::Convert, Subcommand::Show, Subcommand::Report].contains(&self),
-            "--to" | "--all" => self == Subcommand::Convert,
+            "--all" => [Subcommand::Convert, Subcommand::Outcomes].contains(&self),
+            "--to" => self == Subcommand::Convert,
             _ => false,
         }
     }
@@ -251,8 +255,9 @@ mod tests {
     #[test]
     fn each_subcommand_has_its_help() {
         assert_eq!(read_words("--help"), Ok(Request::Help(help::WHOLE)));
-        let texts = [help::DECIDE, help::SHOW, help::EXPLAIN, help::CONVERT, help::STEP, help::REPORT];
-        for (word, text) in ["decide", "show", "explain", "convert", "step", "report"].into_iter().zip(texts) {
+        let texts = [help::DECIDE, help::SHOW, help::EXPLAIN, help::CONVERT, help::STEP, help::OUTCOMES, help::REPORT];
+        let words = ["decide", "show", "explain", "convert", "step", "outcomes", "report"];
+        for (word, text) in words.into_iter().zip(texts) {
             assert_eq!(read_words(&format!("{word} x --help")), Ok(Request::Help(text)));
             assert!(text.contains("example: ") && text.contains(&format!("cogthunder {word} ")));
         }

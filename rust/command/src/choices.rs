@@ -26,6 +26,8 @@ pub struct Choices<'a> {
     named: Vec<usize>,
     /// Whether each of them has to be stated, even where the condition is met without.
     all_stated: bool,
+    /// Whether runs that read what no event writes are left out.
+    supplied_only: bool,
     runs: Vec<Vec<Run>>,
 }
 
@@ -40,6 +42,13 @@ impl<'a> Choices<'a> {
         Choices::of(test, Condition::Always(true), true)
     }
 
+    /// One for each way in which the events can be, but for the values that nothing depends on.
+    pub fn shapes(test: &'a Test) -> Result<Choices<'a>, Error> {
+        let runs = all_runs(test, Wanted::Writes)?;
+        let asked = Condition::Always(true);
+        Ok(Choices { test, asked, named: Vec::new(), all_stated: false, supplied_only: false, runs })
+    }
+
     fn of(test: &'a Test, asked: Condition, all_stated: bool) -> Result<Choices<'a>, Error> {
         let named = test.question.observed().into_iter().filter_map(|place| match place {
             Place::Location(location) => Some(location),
@@ -47,8 +56,8 @@ impl<'a> Choices<'a> {
         });
         let mut named: Vec<usize> = named.collect();
         named.sort_unstable();
-        let runs = all_runs(test, &asked)?;
-        Ok(Choices { test, asked, named, all_stated, runs })
+        let runs = all_runs(test, Wanted::Meeting(&asked))?;
+        Ok(Choices { test, asked, named, all_stated, supplied_only: true, runs })
     }
 
     /// Calls `each` with every choice, by ascending runs of the first hart, then of the second and so on, until it answers
@@ -74,6 +83,9 @@ impl<'a> Choices<'a> {
 
     /// Whether each value read is an initial one or written by some event: else no order gives the choice.
     fn is_supplied(&self, runs: &[&Run]) -> bool {
+        if !self.supplied_only {
+            return true;
+        }
         let events = || runs.iter().flat_map(|run| &run.events);
         events().all(|event| match event.read {
             None => true,
@@ -146,12 +158,12 @@ fn last_values(test: &Test, runs: &[&Run], location: usize) -> BTreeSet<u16> {
     written
 }
 
-/// The runs of each hart, without those whose registers alone break the condition.
-fn all_runs(test: &Test, asked: &Condition) -> Result<Vec<Vec<Run>>, Error> {
+/// The runs of each hart that are wanted.
+fn all_runs(test: &Test, wanted: Wanted) -> Result<Vec<Vec<Run>>, Error> {
     let values = listed(&readable(test)?);
     let hart_runs = |hart: usize| {
         let mut kept = Vec::new();
-        Runs { test, hart, values: &values, wanted: Wanted::Meeting(asked) }.visit(&mut |run| kept.push(run))?;
+        Runs { test, hart, values: &values, wanted }.visit(&mut |run| kept.push(run))?;
         Ok(kept)
     };
     (0..test.harts.len()).map(hart_runs).collect()

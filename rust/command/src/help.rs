@@ -11,6 +11,7 @@ usage: cogthunder SUBCOMMAND [OPTIONS] FILE..
   explain FILE..   why it is allowed or forbidden: a witness in words, or what each way breaks
   convert FILE     between litmus tests, blocks and texts
   step FILE        a test on a machine with store buffers, step by step (RVTSO)
+  outcomes FILE..  every outcome that the rules allow, and which of them are asked for
   report FILE..    one page about all tests: verdicts, pictures and reasons
 
 A FILE is a litmus test (RISC-V instructions in columns, as herd7 reads them), a block of this
@@ -124,6 +125,27 @@ Behind each line stand memory, the buffers, the order of the drains, loads, LRs 
 the steps that can be taken now; at the end of a run also what the library says of its outcome.
 
 example: echo 0 0 4 | cogthunder step samples/litmus/SB.litmus
+";
+
+/// Of `outcomes`.
+pub const OUTCOMES: &str = "\
+usage: cogthunder outcomes [OPTIONS] FILE..
+
+Lists every outcome that the rules allow, a line each, ascending, and says which of them meet the
+condition. For a litmus test that is what the registers and locations of its condition hold at the
+end, and those of a line `locations [..]`; for a text or a block what each event that reads
+returns, `r2` or `(2) y`, then where each location ends. Values that a block states aren't asked for;
+outcomes that have them are said.
+
+  --all               of a litmus test every register that takes a value read, and all locations
+  --model MODEL       rvwmo or rvtso: the model of litmus tests (rvwmo), and what a block must state
+  --visit N           give up on a table with more than N clean prefixes (100000000): the outcomes
+                      are then undecided
+
+Where what is written, an address or a branch depends on what is read, a litmus test has several
+tables, and its outcomes are gathered from all of them. Each SC is taken to have succeeded.
+
+example: cogthunder outcomes samples/litmus/SB.litmus
 ";
 
 /// Of `report`.

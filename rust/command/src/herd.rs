@@ -53,10 +53,7 @@ fn bracketed(condition: String) -> String {
 /// All states that some order gives.
 fn states(test: &Test, most: u64, progress: &mut Progress) -> Result<States, Error> {
     let mut observed = test.question.observed();
-    observed.sort_by_key(|place| match *place {
-        Place::Register(hart, register) => (0, hart, register.index()),
-        Place::Location(location) => (1, location, 0),
-    });
+    observed.sort_by_key(Place::rank);
     let mut states = States::new();
     Choices::all(test)?.visit(&mut |choice| {
         if let Entry::Vacant(state) = states.entry(state(test, &choice, &observed)) {

@@ -17,7 +17,9 @@ mod help;
 mod herd;
 mod input;
 mod layout;
+mod listing;
 mod litmus;
+mod outcomes;
 mod output;
 mod page;
 mod picture;
@@ -74,6 +76,7 @@ fn run(options: &Options, out: &mut Output) -> Result<Status, String> {
         Subcommand::Explain => explain::run(options, out),
         Subcommand::Convert => convert::run(options, out),
         Subcommand::Step => step::run(options, out),
+        Subcommand::Outcomes => outcomes::run(options, out),
         Subcommand::Report => report::run(options, out),
     }
 }

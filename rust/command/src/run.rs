@@ -46,6 +46,18 @@ pub struct Run {
     pub registers: [Value; REGISTERS],
 }
 
+impl Run {
+    /// The run of a hart whose reads return these values, one after the other. None if it can't be followed, or has more reads or
+    /// fewer.
+    pub fn of(test: &Test, hart: usize, reads: &[u16]) -> Option<Run> {
+        let (mut state, mut left) = (State::first(test, &test.harts[hart]), reads.iter());
+        while let Stop::Reads(_) = state.advance().ok()? {
+            state.supply(*left.next()?).ok()?;
+        }
+        left.next().is_none().then(|| state.run())
+    }
+}
+
 /// What a register holds, and the events that it depends on.
 #[derive(Clone, Copy, Default)]
 struct Held {

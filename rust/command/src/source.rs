@@ -60,6 +60,15 @@ impl Source {
         }
     }
 
+    /// The model that it is of.
+    pub fn model(&self) -> Model {
+        match &self.kind {
+            Kind::Litmus(test) => test.model,
+            Kind::Block(table) => model_of(table),
+            Kind::Text(text) => model_of(&text.table),
+        }
+    }
+
     /// What its file expects of it, in RVWMO.
     pub fn expected(&self) -> Option<Expected> {
         match &self.kind {

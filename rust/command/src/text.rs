@@ -43,6 +43,13 @@ impl Text {
         Case { is_open: true, ..case(self.table.clone()) }
     }
 
+    /// The table as a block can state it: every value read is 0, whatever an order gives.
+    pub fn stated(&self) -> Table {
+        let mut table = without_reads(&self.table);
+        state_untouched(&mut table);
+        table
+    }
+
     /// The table with the values that an order gives, and what each event returns from.
     pub fn along(&self, order: &[u8]) -> Result<(Case, Vec<u8>), Refusal> {
         let count = usize::from(self.table.count);
@@ -112,6 +119,17 @@ fn fill(table: &mut Table, returned: &[u8], event: usize) {
         writer => table.events[usize::from(writer)].written,
     };
     state_read(table, event, read);
+}
+
+/// A table with 0 for every value read.
+pub fn without_reads(table: &Table) -> Table {
+    let mut table = table.clone();
+    for event in 0..usize::from(table.count) {
+        if reads(&table.events[event]) {
+            state_read(&mut table, event, 0);
+        }
+    }
+    table
 }
 
 /// States a value read, and what an AMO with an operation makes of it.

@@ -4,7 +4,7 @@ use crate::litmus::Op;
 
 /// A number, or an address where there is a location. Addresses have no number here, so that no verdict depends on where
 /// locations lie.
-#[derive(Clone, Copy, PartialEq, Eq, Hash, Default, Debug)]
+#[derive(Clone, Copy, PartialEq, Eq, PartialOrd, Ord, Hash, Default, Debug)]
 pub struct Value {
     /// The location that the address is of, by its number.
     pub location: Option<usize>,

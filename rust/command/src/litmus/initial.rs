@@ -21,6 +21,16 @@ pub enum Place {
     Location(usize),
 }
 
+impl Place {
+    /// Its place in a list: registers first, by their harts, then locations.
+    pub fn rank(&self) -> (usize, usize, usize) {
+        match *self {
+            Place::Register(hart, register) => (0, hart, register.index()),
+            Place::Location(location) => (1, location, 0),
+        }
+    }
+}
+
 /// A place, its value and the line that says so.
 pub struct Given {
     pub place: Place,

@@ -209,15 +209,19 @@ impl Test {
     /// Whether the test has an SC of which the condition doesn't say that it succeeds: a verdict is then only about the
     /// runs in which it does.
     pub fn assumes_sc(&self) -> bool {
+        let asked = self.question.asked();
+        let is_demanded =
+            |place: &Place| asked.holds(&|other| (other == *place).then_some(Value::number(1))) == Some(false);
+        self.sc_results().iter().filter(|place| is_demanded(place)).count() < self.sc_count()
+    }
+
+    /// How many SCs the test has. In its tables each of them has succeeded.
+    pub fn sc_count(&self) -> usize {
         let is_sc = |instruction: &Instruction| match &instruction.action {
             Action::Access(access) => access.kind == AccessKind::Sc,
             _ => false,
         };
-        let count = self.harts.iter().flat_map(|hart| &hart.program).filter(|instruction| is_sc(instruction)).count();
-        let asked = self.question.asked();
-        let is_demanded =
-            |place: &Place| asked.holds(&|other| (other == *place).then_some(Value::number(1))) == Some(false);
-        self.sc_results().iter().filter(|place| is_demanded(place)).count() < count
+        self.harts.iter().flat_map(|hart| &hart.program).filter(|instruction| is_sc(instruction)).count()
     }
 }
 

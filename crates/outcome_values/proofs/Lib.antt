@@ -1,0 +1,3 @@
+pub mod ReaderLaws
+pub mod LocationLaws
+pub mod OutcomeLaws

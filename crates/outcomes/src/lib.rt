@@ -1,0 +1,1 @@
+// Definitions and laws of the outcomes of a table; no code.
