@@ -166,7 +166,7 @@ pub fn any_test(prng: &mut Prng, table: &Table) -> Vec<u8> {
 }
 
 /// Model 1 in a third of the tests.
-fn any_model(prng: &mut Prng) -> Model {
+pub fn any_model(prng: &mut Prng) -> Model {
     if prng.one_in(3) {
         Model::Rvtso
     } else {

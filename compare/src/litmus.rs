@@ -11,14 +11,28 @@ const EVENTS_AT: usize = 7;
 /// The kinds of events that read: loads, AMOs and LRs.
 const READERS: [u8; 3] = [1, 3, 4];
 
+/// A public test with the verdict that the literature states.
+pub struct Test {
+    pub stated: String,
+    pub block: Vec<u8>,
+    pub name: String,
+}
+
 /// Reads a line for each test: stated verdict, block in hex and name, parted by tabs.
-pub fn run() -> ExitCode {
-    let (mut allowed, mut forbidden, mut wrong) = (0, 0, 0);
-    for line in stdin().lock().lines() {
+pub fn tests() -> Vec<Test> {
+    let test = |line: std::io::Result<String>| {
         let line = line.expect("standard input can be read");
         let fields: Vec<&str> = line.split('\t').collect();
         let [stated, block, name] = fields[..] else { panic!("a line has three fields") };
-        let found = outcome(&bytes(block));
+        Test { stated: stated.to_string(), block: bytes(block), name: name.to_string() }
+    };
+    stdin().lock().lines().map(test).collect()
+}
+
+pub fn run() -> ExitCode {
+    let (mut allowed, mut forbidden, mut wrong) = (0, 0, 0);
+    for Test { stated, block, name } in tests() {
+        let found = outcome(&block);
         match found {
             Ok(Outcome::Allowed) if stated == "allowed" => allowed += 1,
             Ok(Outcome::Forbidden) if stated == "forbidden" => forbidden += 1,

@@ -3,6 +3,7 @@
 mod call;
 mod cases;
 mod comparison;
+mod ladders;
 mod lent;
 mod library;
 mod litmus;
@@ -11,6 +12,8 @@ mod pages;
 mod reference;
 mod runs;
 mod shrink;
+mod strength;
+mod stronger;
 mod tally;
 mod texts;
 mod writes;
@@ -25,6 +28,7 @@ use std::time::{Duration, Instant};
 
 const USAGE: &str = "usage: compare [--calls N] [--seconds S] [--seed X] [--guard-pages]
        compare litmus, with the lines of `scripts/litmus --blocks` on standard input
+       compare stronger, with the same lines, which holds the witnesses of tests to be witnesses of weaker ones
        compare texts, which reads a dozen texts with every byte changed to some twenty others, and cut at each length
 
 Makes N calls (100000), or calls for S seconds, drawn by the seed X (1). With --guard-pages each slice that is lent lies
@@ -59,6 +63,7 @@ fn main() -> ExitCode {
     match std::env::args().nth(1).as_deref() {
         Some("litmus") => return litmus::run(),
         Some("texts") => return run_texts(),
+        Some("stronger") => return stronger::run(),
         _ => {}
     }
     match options(std::env::args().skip(1)) {

@@ -4,3 +4,4 @@ pub mod Demand3Laws
 pub mod EngineLaws
 pub mod DemandLaws
 pub mod OutcomeLaws
+pub mod StrongerLaws

@@ -5,3 +5,4 @@ pub mod PairRules
 pub mod Steps
 pub mod Outcomes
 pub mod Demands
+pub mod Stronger
