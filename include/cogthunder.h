@@ -16,7 +16,7 @@
  * --------
  * All functions but ct_table_of, ct_table_of_text, ct_blocks, ct_test_length and ct_next answer by one word, ct_part_of by one in
  * a struct. Byte 0, the lowest, is the case; bytes that the table doesn't name are 0. A set of rules is in bytes 4 and 5: bit
- * r - 1, counted from the lowest of byte 4, is rule r, from 1 to 13.
+ * r - 1, counted from the lowest of byte 4, is rule r, from 1 to 13. A set of fences is in bytes 4 to 7: bit e is event e.
  *
  *   case                   byte 1              byte 2                      byte 3        bytes 4 to 7
  *   0  good                -                   -                           -             ct_rules: set of rules
@@ -32,6 +32,9 @@
  *   8  none left           -                   -                           -             visited, 0 of outcomes
  *   9  spent               length written      -                           -             visited, 0 of outcomes
  *   10 step accepted       event               entry of a returned list    -             -
+ *   11 advised             -                   -                           -             set of fences
+ *   12 undecided           -                   -                           -             set of fences
+ *   13 fences don't help   -                   -                           -             -
  */
 #ifndef COGTHUNDER_H
 #define COGTHUNDER_H
@@ -66,6 +69,9 @@ extern "C" {
 /* No call of ct_outcomes writes more outcomes than this. */
 #define CT_OUTCOMES 64u
 
+/* The most fences with all bits clear that ct_advise takes. */
+#define CT_CLEAR_FENCES 8u
+
 /* In a returned list: the entry of an event that doesn't read, and of one that returns the initial value. */
 #define CT_NOTHING 254u
 #define CT_INITIALLY 255u
@@ -85,7 +91,10 @@ enum ct_case {
     CT_FOUND = 7,
     CT_NONE_LEFT = 8,
     CT_SPENT = 9,
-    CT_STEP_TAKEN = 10
+    CT_STEP_TAKEN = 10,
+    CT_ADVISED = 11,
+    CT_UNDECIDED = 12,
+    CT_NO_HELP = 13
 };
 
 /* The parts of a word. */
@@ -96,12 +105,14 @@ enum ct_case {
 #define CT_VISITED(word) ((uint32_t)((word) >> 32))
 #define CT_OUTCOMES_WRITTEN(word) ((uint32_t)((word) >> 32))
 #define CT_RULES(word) ((uint16_t)((word) >> 32 & 0xffff))
+#define CT_FENCES(word) ((uint32_t)((word) >> 32))
 
 /* Of refusals 19 and 20: the byte of the text, from 0, where it is wrong; the text's length if it ends too soon. */
 #define CT_PLACE(word) ((uint32_t)((word) >> 32))
 
-/* Whether rule r, from 1 to 13, is in a set. */
+/* Whether rule r, from 1 to 13, is in a set of rules, and event e in a set of fences. */
 #define CT_HAS_RULE(rules, r) (((rules) >> ((r) - 1) & 1) == 1)
+#define CT_HAS_FENCE(fences, e) (((fences) >> (e) & 1) == 1)
 
 /* What an AMO makes of the value read and of its operand, both unsigned. */
 enum ct_operation {
@@ -191,6 +202,18 @@ uint64_t ct_rules(const uint8_t *test, size_t test_len, const uint8_t *returned,
 uint64_t ct_step(const uint8_t *test, size_t test_len, const uint8_t *steps, size_t steps_len, uint64_t step);
 
 /*
+ * Where fences are missing, so that the stated outcome has no witness. A test may hold up to CT_CLEAR_FENCES clear fences: of kind 6,
+ * with all bits clear. Sets of these are tried, the empty set first, then by size, equal sizes by their ascending lists of event
+ * numbers, compared entry by entry; each is turned to all four bits and searched from the empty start as by ct_search, with
+ * `allowance`. The first set with which no witness is found decides. Case 11: none are left, and the set is advised; no smaller set
+ * forbids the outcome, nor does one of its size that is tried before it. Case 12: the search with this set is spent; with each set
+ * before it there is a witness. Case 13: with every set there is one. Case 1: refusal 1 to 11, 21, 22 or 17, in this order.
+ *
+ * At most 256 searches are made, so that a large allowance may take long.
+ */
+uint64_t ct_advise(const uint8_t *test, size_t test_len, uint64_t allowance);
+
+/*
  * Writes the returned list that an order determines to the front of `out`, which has room for an entry for each event
  * (CT_EVENTS is enough for any test); bytes past it stay. Case 0: written. Case 1: refusal 1 to 13, 16 or 21.
  */
@@ -221,24 +244,25 @@ uint64_t ct_search_pruned(const uint8_t *test, size_t test_len, const uint8_t *s
                           size_t out_len, uint64_t allowance);
 
 /*
- * The next outcome of a test. An outcome is what some order that the rules allow gives: the value of each event that reads, in the
- * order of the events, then the value that each location of the test ends at. The reads and final values that the test states aren't
- * asked for, and an AMO with an operation writes what this makes of the value that the order makes it return. Outcomes are compared
- * value by value.
+ * The next outcome of a test. An outcome is what some order that the rules allow gives: the value of each event that
+ * reads, in the order of the events, then the value that each location of the test ends at. The reads and final values
+ * that the test states aren't asked for, and an AMO with an operation writes what this makes of the value that the order
+ * makes it return. Outcomes are compared value by value.
  *
- * `previous` is an earlier outcome, with its length, or has length 0 for none; it may also be any other values, as many as an outcome
- * has. Case 7: the least outcome above it is written to the front of `out`, which has room for it (CT_VALUES is enough for any test);
- * byte 1 is the number of its values, and places past them stay. Case 8: no outcome is above it. Case 9, spent: the test has more clean
- * prefixes, all of them counted from the empty start, than the allowance, whatever the previous outcome. Cases 8 and 9 write nothing.
- * Case 1: refusal 1 to 11 or 21; 12 if `previous` has another length, 16 if `out` has too few places, 17.
+ * `previous` is an earlier outcome, with its length, or has length 0 for none; it may also be any other values, as many
+ * as an outcome has. Case 7: the least outcome above it is written to the front of `out`, which has room for it
+ * (CT_VALUES is enough for any test); byte 1 is the number of its values, and places past them stay. Case 8: no outcome
+ * is above it. Case 9, spent: the test has more clean prefixes, counted from the empty start, than the allowance,
+ * whatever the previous outcome. Cases 8 and 9 write nothing. Case 1: refusal 1 to 11 or 21; 12 if `previous` has
+ * another length, 16 if `out` has too few places, 17.
  */
 uint64_t ct_outcome(const uint8_t *test, size_t test_len, const uint16_t *previous, size_t previous_len, uint16_t *out,
                     size_t out_len, uint64_t allowance);
 
 /*
- * The next outcomes at once, which takes no longer than the next one: as many as there are and `out` has room for, CT_OUTCOMES at
- * most, ascending, one behind the other. Arguments and cases are those of ct_outcome; of case 7, bytes 4 to 7 are the number of
- * outcomes written. The next call is given the last of them.
+ * The next outcomes at once, by one walk: as many as there are and `out` has room for, CT_OUTCOMES at most, ascending,
+ * one behind the other. Arguments and cases are those of ct_outcome; of case 7, bytes 4 to 7 are the number of outcomes
+ * written. The next call is given the last of them.
  */
 uint64_t ct_outcomes(const uint8_t *test, size_t test_len, const uint16_t *previous, size_t previous_len, uint16_t *out,
                      size_t out_len, uint64_t allowance);

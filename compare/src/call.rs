@@ -1,6 +1,6 @@
 //! One call, and what may come of it.
 
-use cogthunder::{Answer, Axiom, Listing, Refusal, Rules, Table, Taken};
+use cogthunder::{Advice, Answer, Axiom, Listing, Refusal, Rules, Table, Taken};
 use oracle::outcome::Asked;
 use oracle::raw::RawTable;
 use oracle::search::Engine;
@@ -80,6 +80,10 @@ pub enum Entry {
         allowance: u64,
         resumed_after: usize,
     },
+    /// Advice on missing fences.
+    Advise {
+        allowance: u64,
+    },
 }
 
 /// What is asked of a suite.
@@ -128,6 +132,7 @@ pub enum Reply {
     Ran(Ran),
     Listed(Listing),
     AllOutcomes(Vec<Vec<u16>>),
+    Advice(Advice),
 }
 
 /// The orders of all complete runs of the machine, with their returned lists, and all witnesses; both ascending.
@@ -208,6 +213,7 @@ impl Entry {
             Entry::Read | Entry::ReadText | Entry::TableOfText => (None, None),
             Entry::Write { .. } | Entry::Suite(_) | Entry::BothEngines { .. } | Entry::Runs => (None, None),
             Entry::Verdict { returned, order } => (Some(returned.into()), Some(order.into())),
+            Entry::Advise { .. } => (None, None),
             Entry::Rules { returned: list, .. }
             | Entry::Returns { order: list, .. }
             | Entry::Search { start: list, .. }
@@ -257,6 +263,7 @@ impl Entry {
             Entry::BothEngines { .. } => "both engines",
             Entry::Step { .. } => "step",
             Entry::Runs => "all runs",
+            Entry::Advise { .. } => "advise",
             Entry::Outcomes { asked: Asked::One, .. } => "outcome",
             Entry::Outcomes { asked: Asked::Some, .. } => "outcomes",
             Entry::AllOutcomes { .. } => "all outcomes",

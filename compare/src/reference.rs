@@ -4,7 +4,8 @@ use crate::call::{Bench, Call, Entry, OfSuite, Outcome, Reply, Walked};
 use crate::library::place_in;
 use crate::outcomes;
 use crate::runs;
-use cogthunder::{Answer, Axiom, Event, Rules, Table, Taken};
+use cogthunder::{Advice, Answer, Axiom, Event, Rules, Table, Taken};
+use oracle::generate::orders::bytes;
 use oracle::outcome::{Arguments, Lister};
 use oracle::raw::RawTable;
 use oracle::record::RawEvent;
@@ -63,6 +64,8 @@ fn reply(lister: &mut Lister, call: &Call, buffer: &mut [u8]) -> Reply {
         Entry::AllOutcomes { previous, allowance, .. } => {
             outcomes::reference(bytes, previous, *allowance).unwrap_or_else(Reply::from)
         }
+        Entry::Advise { allowance } => oracle::advice::advise(bytes, *allowance)
+            .map_or_else(Reply::from, |advice| Reply::Advice(same_advice(&advice))),
     }
 }
 
@@ -131,6 +134,15 @@ fn same_answer(answer: &oracle::search::Answer) -> Answer {
         Other::Found { visited, order } => Answer::Found { len: order.len(), visited: *visited },
         Other::NoneLeft { visited } => Answer::NoneLeft { visited: *visited },
         Other::Spent { visited, prefix } => Answer::Spent { len: prefix.len(), visited: *visited },
+    }
+}
+
+fn same_advice(advice: &oracle::advice::Advice) -> Advice {
+    use oracle::advice::Advice as Other;
+    match advice {
+        Other::Advised(fences) => Advice::Advised(bytes(fences)),
+        Other::Undecided(fences) => Advice::Undecided(bytes(fences)),
+        Other::NoHelp => Advice::NoHelp,
     }
 }
 

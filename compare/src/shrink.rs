@@ -119,6 +119,7 @@ fn without_event(edition: Edition, call: &Call, k: usize) -> Call {
             Entry::AllOutcomes { asked, previous, allowance, resumed_after }
         }
         entry @ (Entry::Write { .. } | Entry::Suite(_) | Entry::BothEngines { .. } | Entry::Runs) => entry,
+        entry @ Entry::Advise { .. } => entry,
     };
     Call { bytes, entry }
 }
@@ -237,6 +238,9 @@ fn smaller_entries(entry: &Entry) -> Vec<Entry> {
         }
         Entry::BothEngines { allowance } => {
             entries.extend(smaller_numbers(*allowance).map(|allowance| Entry::BothEngines { allowance }))
+        }
+        Entry::Advise { allowance } => {
+            entries.extend(smaller_numbers(*allowance).map(|allowance| Entry::Advise { allowance }))
         }
         Entry::Witnesses { given, start, allowance, steps } => {
             entries.extend(smaller_walks(*given, start, *allowance, *steps))

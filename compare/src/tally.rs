@@ -1,7 +1,7 @@
 //! How many calls were made, and what they gave.
 
 use crate::call::{Call, Entry, Outcome, Reply};
-use cogthunder::{Answer, Axiom, Listing, Rules, Taken, INITIALLY, NOTHING};
+use cogthunder::{Advice, Answer, Axiom, Listing, Rules, Taken, INITIALLY, NOTHING};
 use oracle::layout::LONGEST_TEST;
 use oracle::search::Engine;
 use oracle::walks::Given;
@@ -9,7 +9,7 @@ use std::collections::BTreeMap;
 use std::fmt;
 
 /// What a call that takes no text can be refused by.
-const REFUSALS: [u8; 20] = [1, 2, 3, 4, 5, 6, 7, 8, 9, 10, 11, 12, 13, 14, 15, 16, 17, 18, 21, 24];
+const REFUSALS: [u8; 21] = [1, 2, 3, 4, 5, 6, 7, 8, 9, 10, 11, 12, 13, 14, 15, 16, 17, 18, 21, 22, 24];
 /// What a call on a text can be refused by.
 const TEXT_REFUSALS: [u8; 14] = [1, 5, 7, 8, 9, 10, 11, 15, 16, 17, 19, 20, 21, 23];
 /// What a table can be refused by.
@@ -26,6 +26,8 @@ const SEARCHES: [[&str; 3]; 3] = [
 
 const LISTINGS: [&str; 4] = ["one", "some", "none left", "spent"];
 const STEPS: [&str; 3] = ["a store or fence", "a read of an initial value", "a read from an event"];
+
+const ADVICE: [&str; 5] = ["no fence", "some fences", "undecided without", "undecided with some", "no help"];
 
 #[derive(Default)]
 pub struct Tally {
@@ -46,6 +48,7 @@ pub struct Tally {
     /// Calls for outcomes by what they gave; and outcomes of those for all of them.
     listings: BTreeMap<&'static str, u64>,
     all_outcomes: u64,
+    advice: BTreeMap<&'static str, u64>,
     written: u64,
     not_written: BTreeMap<u8, u64>,
 }
@@ -90,6 +93,14 @@ fn listing_name(listing: &Listing) -> &'static str {
     }]
 }
 
+fn advice_name(advice: &Advice) -> &'static str {
+    ADVICE[match advice {
+        Advice::Advised(fences) => usize::from(!fences.is_empty()),
+        Advice::Undecided(fences) => 2 + usize::from(!fences.is_empty()),
+        Advice::NoHelp => 4,
+    }]
+}
+
 impl Tally {
     fn count_rules(&mut self, rules: Rules) {
         for rule in rules.iter() {
@@ -120,6 +131,7 @@ impl Tally {
             Reply::Ran(ran) => self.orders_of_runs += ran.orders.len() as u64,
             Reply::Listed(listing) => *self.listings.entry(listing_name(listing)).or_default() += 1,
             Reply::AllOutcomes(outcomes) => self.all_outcomes += outcomes.len() as u64,
+            Reply::Advice(advice) => *self.advice.entry(advice_name(advice)).or_default() += 1,
             Reply::Good if call.entry.name() == "verdict" => *self.verdicts.entry(VERDICTS[0]).or_default() += 1,
             Reply::Searched(answer) => *self.searches.entry(search_name(&call.entry, answer)).or_default() += 1,
             Reply::Table(_) if call.entry == Entry::ReadText => self.good_texts += 1,
@@ -147,6 +159,8 @@ impl Tally {
         let steps = STEPS.iter().filter(|&name| !self.taken.contains_key(name)).map(|name| format!("step: {name}"));
         let listings = LISTINGS.iter().filter(|&name| !self.listings.contains_key(name));
         let listings = listings.map(|name| format!("outcomes: {name}"));
+        let advice =
+            ADVICE.iter().filter(|&name| !self.advice.contains_key(name)).map(|name| format!("advice: {name}"));
         let not_written = TABLE_REFUSALS.iter().filter(|&n| !self.not_written.contains_key(n));
         let not_written = not_written.map(|n| format!("refusal {n} of a table"));
         let written = (self.written == 0).then(|| "a table that is written".to_string());
@@ -154,7 +168,15 @@ impl Tally {
         let text = (self.good_texts == 0).then(|| "a good text".to_string());
         let refusals = refusals.chain(of_texts).chain(not_written);
         let good = written.into_iter().chain(in_two).chain(text);
-        refusals.chain(rules).chain(verdicts).chain(searches).chain(steps).chain(listings).chain(good).collect()
+        refusals
+            .chain(rules)
+            .chain(verdicts)
+            .chain(searches)
+            .chain(steps)
+            .chain(listings)
+            .chain(advice)
+            .chain(good)
+            .collect()
     }
 }
 
@@ -173,6 +195,7 @@ impl fmt::Display for Tally {
         writeln!(f, "  searches {}", listed(&self.searches))?;
         writeln!(f, "  steps    {}; orders of all runs: {}", listed(&self.taken), self.orders_of_runs)?;
         writeln!(f, "  outcomes {}; all of some tests: {}", listed(&self.listings), self.all_outcomes)?;
+        writeln!(f, "  advice   {}", listed(&self.advice))?;
         write!(f, "  tables   written: {}, refused by {}", self.written, listed(&self.not_written))
     }
 }

@@ -1,5 +1,7 @@
 //! The reference program of the RVWMO bench as a library, for programs that compare the bench with it.
 
+pub mod advice;
+pub mod advice_calls;
 pub mod candidate;
 pub mod candidates;
 pub mod condition;

@@ -200,6 +200,7 @@ pub enum Line {
     Grammar = 19,
     Levels = 20,
     UnusedLocation = 21,
+    EmptyFences = 22,
     Names = 23,
     Step = 24,
 }

@@ -214,13 +214,40 @@ impl fmt::Display for Taken {
     }
 }
 
+/// Which fences a test lacks: a set of its empty ones, as their event numbers, ascending.
+#[derive(Clone, PartialEq, Eq, Hash, Debug)]
+pub enum Advice {
+    /// With these fences full the outcome is forbidden, and with no fewer; without any, as it is.
+    Advised(Vec<u8>),
+    /// With these fences full the allowance is spent; with each set before this one the outcome is allowed.
+    Undecided(Vec<u8>),
+    /// The outcome is allowed, whichever of the empty fences are full.
+    NoHelp,
+}
+
+impl fmt::Display for Advice {
+    fn fmt(&self, f: &mut fmt::Formatter) -> fmt::Result {
+        let (verdict, fences) = match self {
+            Advice::Advised(fences) => ("forbidden", fences),
+            Advice::Undecided(fences) => ("undecided", fences),
+            Advice::NoHelp => return write!(f, "fences don't help"),
+        };
+        let numbers: Vec<String> = fences.iter().map(u8::to_string).collect();
+        match numbers.split_last() {
+            None => write!(f, "{verdict} as it is"),
+            Some((only, [])) => write!(f, "{verdict} with fence {only} full"),
+            Some((last, others)) => write!(f, "{verdict} with fences {} and {last} full", others.join(", ")),
+        }
+    }
+}
+
 #[cfg(test)]
 mod tests {
     use super::*;
 
     #[test]
     fn each_refusal_has_its_line() {
-        let numbers: Vec<u8> = (1..=21).chain([23, 24]).collect();
+        let numbers: Vec<u8> = (1..=24).collect();
         let listed: Vec<u8> =
             REFUSALS.lines().map(|line| line.split_once('\t').expect("a tab").0.parse().expect("a number")).collect();
         assert_eq!(listed, numbers);
@@ -256,5 +283,9 @@ mod tests {
         assert_eq!(Taken { event: 3, entry: NOTHING }.to_string(), "event 3");
         assert_eq!(Taken { event: 3, entry: INITIALLY }.to_string(), "event 3, which returns the initial value");
         assert_eq!(Taken { event: 3, entry: 2 }.to_string(), "event 3, which returns from event 2");
+        assert_eq!(Advice::Advised(vec![]).to_string(), "forbidden as it is");
+        assert_eq!(Advice::Advised(vec![1, 4, 7]).to_string(), "forbidden with fences 1, 4 and 7 full");
+        assert_eq!(Advice::Undecided(vec![4]).to_string(), "undecided with fence 4 full");
+        assert_eq!(Advice::NoHelp.to_string(), "fences don't help");
     }
 }

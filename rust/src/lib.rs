@@ -51,6 +51,8 @@
 //! Which outcomes a test has at all, whatever it states: [`Outcomes`].
 //!
 //! For tests of RVTSO there is a machine of single steps, with a store buffer for each hart: [`step`].
+//!
+//! Where an outcome is to be forbidden, [`advise`] says which fences a test lacks.
 
 #![deny(missing_docs)]
 
@@ -64,10 +66,10 @@ mod suite;
 mod table;
 mod witnesses;
 
-pub use answers::{Answer, Axiom, Listing, Refusal, Taken, Verdict};
+pub use answers::{Advice, Answer, Axiom, Listing, Refusal, Taken, Verdict};
 pub use library::{
-    blocks, next_test, outcome, outcomes, part, read, read_text, returns, rules, search, search_pruned, search_text,
-    step, test_length, verdict, write,
+    advise, blocks, next_test, outcome, outcomes, part, read, read_text, returns, rules, search, search_pruned,
+    search_text, step, test_length, verdict, write,
 };
 pub use operation::Operation;
 pub use outcomes::{Outcomes, Unlisted};
@@ -96,6 +98,9 @@ pub const VALUES: usize = EVENTS + LOCATIONS;
 
 /// No call lists more outcomes than this.
 pub const OUTCOMES: usize = 64;
+
+/// A test may have at most this many empty fences where advice is asked for.
+pub const EMPTY_FENCES: usize = 8;
 
 /// The largest allowance of a search, and of a call for outcomes.
 pub const LARGEST_ALLOWANCE: u64 = 1_000_000_000;

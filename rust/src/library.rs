@@ -1,6 +1,6 @@
 //! The proved functions, each answer of which is one word.
 
-use crate::answers::{Answer, Axiom, Listing, Refusal, Taken, Verdict};
+use crate::answers::{Advice, Answer, Axiom, Listing, Refusal, Taken, Verdict};
 use crate::rules::Rules;
 use crate::table::{Event, Table};
 
@@ -87,6 +87,8 @@ extern "C" {
         allowance: u64,
     ) -> u64;
 
+    fn ct_advise(test: *const u8, test_len: usize, allowance: u64) -> u64;
+
     fn ct_blocks(suite: *const u8, suite_len: usize) -> u64;
 
     fn ct_part_of(suite: *const u8, suite_len: usize, k: u64) -> Part;
@@ -120,6 +122,9 @@ const FOUND: u8 = 7;
 const NONE_LEFT: u8 = 8;
 const SPENT: u8 = 9;
 const STEP_TAKEN: u8 = 10;
+const ADVISED: u8 = 11;
+const UNDECIDED: u8 = 12;
+const NO_HELP: u8 = 13;
 
 /// In the place of a record where a refusal names none.
 const NO_RECORD: u8 = 255;
@@ -449,14 +454,15 @@ pub fn step(test: &[u8], steps: &[u8], step: u64) -> Result<Taken, Refusal> {
     }
 }
 
-/// The next outcome of a test: the values of each event that reads, in the order of the events, then the value that each location
-/// ends at, as some order that the rules allow gives them.
+/// The next outcome of a test: the value of each event that reads, in the order of the events, then the value that each
+/// location ends at, as some order that the rules allow gives them.
 ///
-/// The reads and final values that the test states aren't asked for, and an AMO with an operation writes what this makes of the value
-/// that the order makes it return. `previous` is an earlier outcome, or empty for none; it may also be any other values, as many as an
-/// outcome has. The least outcome above it is written to the front of `out` ([`VALUES`](crate::VALUES) is enough room), and places past
-/// it stay. [`Listing::Spent`] is by the test and the allowance alone: the test has more clean prefixes. Refused by 1 to 11
-/// and 21; then by 12 if `previous` has another length, by 16 if `out` has too few places, and by 17.
+/// The reads and final values that the test states aren't asked for, and an AMO with an operation writes what this makes of
+/// the value that the order makes it return. `previous` is an earlier outcome, or empty for none; it may also be any other
+/// values, as many as an outcome has. The least outcome above it is written to the front of `out`
+/// ([`VALUES`](crate::VALUES) is enough room), and places past it stay. [`Listing::Spent`] is by the test and the allowance
+/// alone: the test has more clean prefixes. Refused by 1 to 11 and 21; then by 12 if `previous` has another length, by 16
+/// if `out` has too few places, and by 17.
 ///
 /// [`Outcomes`](crate::Outcomes) has all outcomes one after the other.
 ///
@@ -482,8 +488,8 @@ pub fn outcome(test: &[u8], previous: &[u16], out: &mut [u16], allowance: u64) -
     listed(word, |_| 1)
 }
 
-/// The next outcomes at once, which takes no longer than the next one: as many as there are and `out` has room for, at most
-/// [`OUTCOMES`](crate::OUTCOMES), ascending, one behind the other. All else is as for [`outcome`].
+/// The next outcomes at once, by one walk: as many as there are and `out` has room for, at most [`OUTCOMES`](crate::OUTCOMES),
+/// ascending, one behind the other. All else is as for [`outcome`].
 ///
 /// ```
 /// use cogthunder::{outcomes, Listing};
@@ -519,6 +525,48 @@ fn listed(word: u64, outcomes: fn(u64) -> usize) -> Result<Listing, Refusal> {
         [SPENT, ..] => Ok(Listing::Spent),
         _ => unreachable!("a call for outcomes has no other case"),
     }
+}
+
+/// Which fences a test lacks: the first set of its empty fences, those that order nothing, with which no witness is left. A fence of
+/// the set orders all accesses before it with all behind it. The empty set is tried first, then sets by their size, and those of
+/// one size by their lists of event numbers, compared entry by entry; each is searched as by [`search`], from the empty start and
+/// with the allowance given, and the first one for which no witness is found decides.
+///
+/// It is refused by 1 to 11 and 21, by 22 if it has more than [`EMPTY_FENCES`](crate::EMPTY_FENCES) of them, and by 17.
+///
+/// ```
+/// use cogthunder::{advise, Accesses, Advice, Table, Witnesses};
+///
+/// // Message passing, with an empty fence between the accesses of each hart.
+/// let mut table = Table::new(2, 2);
+/// table.store(0, 0, 1);
+/// let first = table.fence(0, Accesses::None, Accesses::None);
+/// table.store(0, 1, 1);
+/// table.load(1, 1, 1);
+/// let second = table.fence(1, Accesses::None, Accesses::None);
+/// table.load(1, 0, 0);
+/// assert!(Witnesses::of(&table.block()?)?.next().is_some());
+///
+/// // Both are needed, and with both the outcome is forbidden.
+/// assert_eq!(advise(&table.block()?, 1_000_000)?, Advice::Advised(vec![first, second]));
+/// table.fill_fence(first);
+/// assert_eq!(advise(&table.block()?, 1_000_000)?, Advice::Advised(vec![second]));
+/// table.fill_fence(second);
+/// assert_eq!(advise(&table.block()?, 1_000_000)?, Advice::Advised(vec![]));
+/// assert_eq!(Witnesses::of(&table.block()?)?.next(), None);
+/// # Ok::<(), cogthunder::Refusal>(())
+/// ```
+pub fn advise(test: &[u8], allowance: u64) -> Result<Advice, Refusal> {
+    let word = unsafe { ct_advise(test.as_ptr(), test.len(), allowance) };
+    let [case, ..] = parts(word)?;
+    let mask = (word >> u32::BITS) as u32;
+    let fences = (0..u32::BITS as u8).filter(|event| mask >> event & 1 == 1).collect();
+    Ok(match case {
+        ADVISED => Advice::Advised(fences),
+        UNDECIDED => Advice::Undecided(fences),
+        NO_HELP => Advice::NoHelp,
+        _ => unreachable!("advice has no other case"),
+    })
 }
 
 /// How many blocks a suite has; a last part block counts. Its tests are [`Tests`](crate::Tests).
@@ -592,7 +640,7 @@ pub fn next_test(suite: &[u8], k: u64) -> u64 {
 #[cfg(test)]
 mod tests {
     use super::*;
-    use crate::{INITIALLY, NOTHING};
+    use crate::{Accesses, INITIALLY, NOTHING};
 
     #[test]
     fn the_word_of_a_refusal_has_a_record_or_a_place() {
@@ -684,6 +732,48 @@ mod tests {
         // Another model, and a test that is refused before.
         assert_eq!(refusal(include_bytes!("../../samples/C1.block"), &[], 0), Err(24));
         assert_eq!(refusal(&block[1..], &[9], 9), Err(1));
+    }
+
+    /// Message passing behind 20 fences that do nothing, so that it takes edition 2, with an empty fence between each hart's
+    /// accesses: events 21 and 24.
+    fn fenced_message() -> Table {
+        let mut table = Table::new(2, 2);
+        for _ in 0..20 {
+            table.fence_tso(0);
+        }
+        table.store(0, 0, 1);
+        table.fence(0, Accesses::None, Accesses::None);
+        table.store(0, 1, 1);
+        table.load(1, 1, 1);
+        table.fence(1, Accesses::None, Accesses::None);
+        table.load(1, 0, 0);
+        table
+    }
+
+    #[test]
+    fn the_word_of_advice_has_the_mask_of_a_set() {
+        let test = fenced_message().test().expect("the table is good");
+        let word = |allowance| unsafe { ct_advise(test.as_ptr(), test.len(), allowance) }.to_le_bytes();
+        assert_eq!(word(29), [ADVISED, 0, 0, 0, 0, 0, 0x20, 0x01]);
+        assert_eq!(word(28), [UNDECIDED, 0, 0, 0, 0, 0, 0x20, 0]);
+        assert_eq!(word(0), [UNDECIDED, 0, 0, 0, 0, 0, 0, 0]);
+        assert_eq!(word(1_000_000_001), [REFUSED, 17, NO_RECORD, 0, 0, 0, 0, 0]);
+        let block = include_bytes!("../../samples/C1.block");
+        let word = unsafe { ct_advise(block.as_ptr(), block.len(), 27) };
+        assert_eq!(word.to_le_bytes(), [NO_HELP, 0, 0, 0, 0, 0, 0, 0]);
+    }
+
+    #[test]
+    fn advice_is_given_of_eight_fences_at_most() {
+        let mut table = fenced_message();
+        let fence = table.events[21].kind;
+        (0..6).for_each(|event| table.events[event].kind = fence);
+        let advised = |table: &Table| advise(&table.test().expect("the table is good"), 1000);
+        assert_eq!(advised(&table), Ok(Advice::Advised(vec![21, 24])));
+        table.events[6].kind = fence;
+        assert_eq!(advised(&table).map_err(|refusal| refusal.number), Err(22));
+        table.fill_fence(0);
+        assert_eq!(advised(&table), Ok(Advice::Advised(vec![21, 24])));
     }
 
     #[test]

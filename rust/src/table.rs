@@ -19,6 +19,9 @@ const TOO_MANY: u8 = u8::MAX;
 /// Flags that no event has: refused by 7.
 const OUT_OF_RANGE: u8 = u8::MAX;
 
+/// The flags of a fence that orders all accesses.
+const FULL: u8 = 15;
+
 /// In the flags of a fence the later accesses stand this many bits above the earlier ones.
 const LATER: u8 = 2;
 
@@ -274,6 +277,12 @@ impl Table {
         let event = self.slot(event);
         // The same bits of a fence mean other things.
         event.flags |= if event.kind == FENCE { OUT_OF_RANGE } else { annotation as u8 };
+    }
+
+    /// Makes a fence order all accesses before it with all behind it, as [`advise`](crate::advise) tries it.
+    pub fn fill_fence(&mut self, event: u8) {
+        let event = self.slot(event);
+        event.flags = if event.kind == FENCE { FULL } else { OUT_OF_RANGE };
     }
 
     /// The event's address depends on what event `on` read, or on the result of that SC.

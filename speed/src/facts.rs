@@ -12,7 +12,7 @@ const SW: u8 = 8;
 
 /// For each event a mask of others. Where a mask says nothing of an event, as that of the own writers of one that doesn't
 /// read, it is empty.
-#[derive(Default)]
+#[derive(Clone, Default)]
 pub struct Facts {
     pub memory: u32,
     /// Those that steady rules put before it, and those that wait for it.
@@ -212,6 +212,36 @@ impl Facts {
                 left &= left - 1;
                 self.right[e] |= bit_if(t.events[r].read == x.written, r);
             }
+        }
+    }
+}
+
+/// A fence with no bits, and the memory events of its hart on either side.
+pub struct Fence {
+    pub event: usize,
+    before: u32,
+    behind: u32,
+}
+
+impl Fence {
+    pub fn empty_ones(t: &Table) -> Vec<Fence> {
+        let sets = Sets::of(t);
+        let empty = t.events[..t.count].iter().enumerate().filter(|(_, x)| x.kind == FENCE && x.flags == 0);
+        let fence = |(event, x): (usize, &Event)| {
+            let own = sets.harts[usize::from(x.hart)] & sets.memory();
+            let before = under(own, event);
+            Fence { event, before, behind: own & !before }
+        };
+        empty.map(fence).collect()
+    }
+}
+
+impl Facts {
+    /// A fence puts all memory events before it before all behind it.
+    pub fn fill(&mut self, fence: &Fence) {
+        for e in 0..EVENTS {
+            self.pred[e] |= mask_if(fence.behind >> e & 1 == 1, fence.before);
+            self.succ[e] |= mask_if(fence.before >> e & 1 == 1, fence.behind);
         }
     }
 }

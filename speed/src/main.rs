@@ -1,5 +1,6 @@
 //! Times the proved search and reading beside plain Rust with the same algorithms, on the same tests and in the same run.
 
+mod advice;
 mod facts;
 mod kept;
 mod listing;
@@ -132,13 +133,14 @@ fn time_readings(edition: u8, kinds: &[Vec<u8>]) {
 }
 
 /// With the path of the proved suite program it times both of them too. With a word it is the suite program, or times the
-/// second engine, texts or outcomes.
+/// second engine, texts, outcomes or advice.
 fn main() {
     match std::env::args().nth(1).as_deref() {
         Some(suite::COMMAND) => return suite::run(),
         Some(pruned::COMMAND) => return pruned::run(),
         Some(texts::COMMAND) => return texts::run(),
         Some(outcomes::COMMAND) => return outcomes::run(),
+        Some(advice::COMMAND) => return advice::run(),
         _ => {}
     }
     time_shapes();

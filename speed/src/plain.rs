@@ -220,6 +220,11 @@ fn call<const PRUNED: bool>(block: &[u8], start: &[u8], out: &mut [u8], allowanc
     walk::<PRUNED>(&facts, start, out, allowance).ok_or(NOT_LISTED)
 }
 
+/// The first engine from the empty start, by facts that are there already.
+pub fn search_facts(facts: &Facts, out: &mut [u8], allowance: u64) -> Answer {
+    walk::<false>(facts, &[], out, allowance).expect("the empty start is good")
+}
+
 /// The first engine's call on a block, whose buffer and allowance are taken for good.
 pub fn search(block: &[u8], start: &[u8], out: &mut [u8], allowance: u64) -> Result<Answer, Refusal> {
     call::<false>(block, start, out, allowance)

@@ -1,5 +1,6 @@
-//! The proved searches, outcomes and reading, by their signatures for C.
+//! The proved searches, outcomes, advice and reading, by their signatures for C.
 
+use crate::advice::Advice;
 use crate::listing::Listing;
 use crate::plain::Answer;
 use crate::reading::Refusal;
@@ -39,6 +40,8 @@ extern "C" {
         allowance: u64,
     ) -> u64;
 
+    fn ct_advise(block: *const u8, block_len: usize, allowance: u64) -> u64;
+
     fn ct_read_text(text: *const u8, text_len: usize) -> u64;
 
     fn ct_search_text(
@@ -56,6 +59,9 @@ const REFUSED: u8 = 1;
 const FOUND: u8 = 7;
 const NONE_LEFT: u8 = 8;
 const SPENT: u8 = 9;
+const ADVISED: u8 = 11;
+const UNDECIDED: u8 = 12;
+const NO_HELP: u8 = 13;
 
 /// In the place of a record where a refusal names none.
 const NO_RECORD: u8 = 255;
@@ -73,6 +79,19 @@ pub fn refusal(test: &[u8]) -> Option<Refusal> {
     let word = unsafe { ct_read(test.as_ptr(), test.len()) };
     let [case, line, record, ..] = word.to_le_bytes();
     (case == REFUSED).then(|| refused(line, record))
+}
+
+/// Advice on a block.
+pub fn advise(block: &[u8], allowance: u64) -> Result<Advice, Refusal> {
+    let word = unsafe { ct_advise(block.as_ptr(), block.len(), allowance) };
+    let [case, first, second, ..] = word.to_le_bytes();
+    let mask = (word >> 32) as u32;
+    match case {
+        ADVISED => Ok(Advice::Advised(mask)),
+        UNDECIDED => Ok(Advice::Undecided(mask)),
+        NO_HELP => Ok(Advice::NoHelp),
+        _ => Err(refused(first, second)),
+    }
 }
 
 fn answer(word: u64) -> Result<Answer, Refusal> {

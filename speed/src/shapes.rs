@@ -61,6 +61,14 @@ impl Builder {
         self
     }
 
+    /// Two events of one hart, and so many empty fences between them.
+    fn apart(mut self, first: Event, fences: usize, second: Event) -> Builder {
+        self.events.push(first);
+        self.events.extend((0..fences).map(|_| Event { flags: 0, ..fence(first.hart) }));
+        self.events.push(second);
+        self
+    }
+
     fn finally(mut self, location: u8, value: u16) -> Builder {
         self.finals.push((location, value));
         self
@@ -188,6 +196,32 @@ pub fn timed() -> Vec<(&'static str, Table)> {
         ("S twice, fence and data", s()),
         ("R twice, fences", r()),
         ("ISA2, fence, data, address", isa2()),
+    ]
+}
+
+/// Message passing, with four empty fences on each hart, and what the second one reads; its loads come last, or first.
+fn message_apart(read: [u16; 2], loads_first: bool) -> Table {
+    let (reader, writer) = if loads_first { (0, 1) } else { (1, 0) };
+    let loads = |b: Builder| b.apart(load(reader, Y, read[0]), 4, load(reader, X, read[1]));
+    let stores = |b: Builder| b.apart(store(writer, X, 1), 4, store(writer, Y, 1));
+    let b = Builder::default();
+    if loads_first { stores(loads(b)) } else { loads(stores(b)) }.table()
+}
+
+/// A ring of four, with two empty fences on each hart, and what its loads read.
+fn ring_apart(read: u16) -> Table {
+    ring(|b, h| b.apart(store(h, h, 1), 2, load(h, following(h), read))).table()
+}
+
+/// Tables with eight empty fences: those whose outcome the order of the program gives, however the fences are filled, of which
+/// some come late in the list of prefixes; and those whose outcome two or four of the fences forbid.
+pub fn with_empty_fences() -> Vec<(&'static str, Table)> {
+    vec![
+        ("MP, both seen", message_apart([1, 1], false)),
+        ("MP, both seen late", message_apart([1, 1], true)),
+        ("SB ring of 4, all seen", ring_apart(1)),
+        ("MP", message_apart([1, 0], false)),
+        ("SB ring of 4", ring_apart(0)),
     ]
 }
 

@@ -1,5 +1,5 @@
 -- An answer as one word of 64 bits, for C: byte 0 is its case, bytes 1 to 3 its values, bytes 4 to 7 the visited
--- number or the place of a byte or, in bytes 4 and 5, a set of rules.
+-- number or the place of a byte or a set of events or, in bytes 4 and 5, a set of rules.
 use Prim.Native.Nat.{ℕ, _+_, _*_, _-_, _^_}
 use mathlib.Core.List.{List, [], _∷_}
 use lib.ListN.{length, getD}
@@ -10,6 +10,8 @@ use Rattle.prefixes.specs.Answer.{Answer, found, noneLeft, spent}
 use Rattle.steps.specs.Replies.{StepAnswer}
 use Rattle.outcomes.specs.Outcomes.{Listing, given, noneLeft as noneOther, spent as exceeded}
 use Rattle.outcome_listing.specs.Replies.{valuesIn}
+use Rattle.masks.specs.MaskOf.{maskOf}
+use Rattle.advice.specs.Advice.{Advice, advised, undecided, fencesDontHelp}
 
 unfoldable pub word : (kind a b d visited : ℕ) → ℕ
 word kind a b d visited = kind + 256 * a + 65536 * b + 16777216 * d + 4294967296 * visited
@@ -56,6 +58,13 @@ ruledWord (answered rules) = word 0 0 0 0 (rulesMask rules)
 abbrev pub stepWord : Reply Refused StepAnswer → ℕ
 stepWord (refused r) = refusalWord r
 stepWord (answered a) = word 10 (a .event) (a .entry) 0 0
+
+-- 11: advised; 12: undecided; with the set as the mask of its events; 13: fences don't help
+abbrev pub adviceWord : Reply Refused Advice → ℕ
+adviceWord (refused r) = refusalWord r
+adviceWord (answered (advised s)) = word 11 0 0 0 (maskOf s)
+adviceWord (answered (undecided s)) = word 12 0 0 0 (maskOf s)
+adviceWord (answered fencesDontHelp) = word 13 0 0 0 0
 
 -- 7: found; 8: none left; 9: spent; with the number of entries that were written
 abbrev pub answerWord : Answer → ℕ

@@ -1,4 +1,5 @@
 // An answer as one word of 64 bits, for C.
+use advising::Advice;
 use bench::TextReply;
 use outcome_listing::OutcomeReply;
 use pair_rules::PairRules;
@@ -16,7 +17,8 @@ ghost use Rattle.rule_sets.specs.RuleMask.{rulesIn};
 ghost use Rattle.verdict.specs.Judged.{axiomOf, judgedOf};
 ghost use Rattle.pair_rules.specs.PairRules.{ruledOf};
 ghost use Rattle.steps.specs.Replies.{stepOf};
-ghost use Rattle.answer_word.specs.Words.{word, refusalWord, rulesMask, lowestOf, verdictWord, judgedWord, ruledWord, stepWord};
+ghost use Rattle.advising.specs.Replies.{adviceOf};
+ghost use Rattle.answer_word.specs.Words.{word, refusalWord, rulesMask, lowestOf, verdictWord, judgedWord, ruledWord, stepWord, adviceWord};
 ghost use Rattle.text.specs.TextRefusals.{textRefusalOf};
 ghost use Rattle.answer_word.specs.Given.{endingWord, givenWord, listedWord, textGivenWord, EndingFits, GivenFits, PlaceFits, TextGivenFits};
 
@@ -45,6 +47,12 @@ impl Case {
     const SPENT: u8 = 9;
 
     const STEP_TAKEN: u8 = 10;
+
+    const ADVISED: u8 = 11;
+
+    const UNDECIDED: u8 = 12;
+
+    const NO_HELP: u8 = 13;
 }
 
 // The weights of bytes 1, 2 and 3 of a word, and that of its upper half.
@@ -154,6 +162,18 @@ pub fn step_word(reply: StepReply) -> u64
     match reply {
         StepReply::Refused(refusal) => refusal_word(refusal),
         StepReply::Taken { event, entry } => word(Case::STEP_TAKEN, event, entry, 0, 0),
+    }
+}
+
+// The set of fences is the upper half of the word.
+pub fn advice_word(advice: Advice) -> u64
+    ensures { λ r. ⌜ r ≡ adviceWord (adviceOf advice) ⌝ }
+{
+    match advice {
+        Advice::Refused(refusal) => refusal_word(refusal),
+        Advice::Advised(set) => word(Case::ADVISED, 0, 0, 0, set as u64),
+        Advice::Undecided(set) => word(Case::UNDECIDED, 0, 0, 0, set as u64),
+        Advice::NoHelp => word(Case::NO_HELP, 0, 0, 0, 0),
     }
 }
 

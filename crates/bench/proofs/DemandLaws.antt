@@ -8,7 +8,7 @@ use Rattle.table.specs.declared.Table.{Table}
 use Rattle.decode.specs.Decoded.{decoded}
 use Rattle.refusals.specs.Lines.{Refused, accepted, byLine, byRecord, byPlace, Line, firstLine, replyUnless}
 use Rattle.refusals.specs.Exactly.{Exactly}
-use Rattle.refusals.proofs.PassedLaws.{unless-refused}
+use Rattle.refusals.proofs.PassedLaws.{passed-both, unless-refused}
 use Rattle.refusals.proofs.ExactlyLaws.{first-exactly}
 use Rattle.block.specs.Reading.{readingLines, readRefusal}
 use Rattle.writer.specs.Writing.{writingLines, writeRefusal, writtenBlock}
@@ -21,19 +21,23 @@ use Rattle.model.specs.Says.{Says}
 use Rattle.model.proofs.SaysLaws.{says, allowed-exactly}
 use Rattle.machine.proofs.MachineLaws.{machine-right}
 use Rattle.machine.proofs.BufferLaws.{buffers-right}
+use Rattle.advice.specs.Advice.{advice}
+use Rattle.advice.specs.Statements.{AdviceRight}
+use Rattle.advice.proofs.AdviceLaws.{advice-right}
 use Rattle.candidate.specs.Buffers.{written}
 use Rattle.search.specs.Replies.{bufferAfter}
 use Rattle.text.specs.Texts.{textLines, textRefusal}
 use Rattle.bench.specs.Candidate.{verdictLines, verdictOf, returnsLines, returnsRefusal, returnsBuffer}
 use Rattle.bench.specs.PairRules.{rulesLines, rulesOf}
 use Rattle.bench.specs.Steps.{machineLines, machineReply}
+use Rattle.bench.specs.Advice.{adviseLines, adviceReply}
 use Rattle.bench.specs.Search.{ofBlock, ofBlockPruned, refusalTo, replyTo, bufferLeft, searchLines, prunedLines, ofText, textSearchLines}
 use Rattle.outcomes.specs.Outcomes.{Listing}
 use Rattle.outcome_listing.specs.Replies.{placesAfter}
 use Rattle.bench.specs.Outcomes.{listingLines, listingReply, listingBuffer}
-use Rattle.bench.specs.Demands.{refusalIn, Unaltered, Demand1, Demand2, Demands, StepMachine, OutcomesListed}
+use Rattle.bench.specs.Demands.{refusalIn, Unaltered, Demand1, Demand2, Demands, StepMachine, OutcomesListed, AdviceMeans}
 use Rattle.bench.proofs.EntryLaws.{tso-read}
-use Rattle.bench.proofs.ReplyLaws.{block-sound, pruned-sound, text-sound}
+use Rattle.bench.proofs.ReplyLaws.{read-memory, block-sound, pruned-sound, text-sound}
 use Rattle.bench.proofs.Demand3Laws.{demand3}
 use Rattle.bench.proofs.OutcomeLaws.{every-outcome}
 
@@ -63,7 +67,7 @@ exactly-of : (n : ℕ) (ls : List Line) (r : Refused) → r ≡ firstLine n ls �
 exactly-of n ls r e = subst (Exactly n ls) (sym e) (first-exactly n ls)
 
 demand1 : (s : List ℕ) (t : Table) (rf gmo start out : List ℕ) (a b allowance k : ℕ) → Demand1 s t rf gmo start out a b allowance k
-unfolding readRefusal textRefusal writeRefusal writtenBlock verdictOf rulesOf machineReply listingReply listingBuffer returnsRefusal returnsBuffer refusalTo replyTo bufferLeft
+unfolding readRefusal textRefusal writeRefusal writtenBlock verdictOf rulesOf machineReply adviceReply listingReply listingBuffer returnsRefusal returnsBuffer refusalTo replyTo bufferLeft
 demand1 s t rf gmo start out a b allowance k = record {
   read = first-exactly _ (readingLines s);
   write = first-exactly _ (writingLines t out);
@@ -71,6 +75,7 @@ demand1 s t rf gmo start out a b allowance k = record {
   verdict = exactly-of _ (verdictLines s rf gmo) _ (refusal-in _ _);
   rules = exactly-of _ (rulesLines s rf) _ (refusal-in _ _);
   step = λ bs. exactly-of _ (machineLines s bs b) _ (refusal-in _ _);
+  advise = exactly-of _ (adviseLines s allowance) _ (refusal-in _ _);
   returns = first-exactly _ (returnsLines s gmo out);
   returns-unaltered = unless-refused (returnsRefusal s gmo out) (written (returns (decoded s) gmo) out) out;
   search = exactly-of _ (searchLines s start out allowance) _ (refusal-in _ _);
@@ -85,12 +90,12 @@ demand1 s t rf gmo start out a b allowance k = record {
   part = empty-exactly s k;
 }
 
--- a verdict that isn't refused is the definition's
-judged-is : (r : Refused) (v w : Verdict) → replyUnless r v ≡ answered w → v ≡ w
-judged-is accepted v w e = cc
-judged-is (byLine n) v w e = absurd (let z : _≡_ {A = ℕ} 0 1 = cc in omega arith)
-judged-is (byRecord n k) v w e = absurd (let z : _≡_ {A = ℕ} 0 1 = cc in omega arith)
-judged-is (byPlace n p) v w e = absurd (let z : _≡_ {A = ℕ} 0 1 = cc in omega arith)
+-- an answer wasn't refused, and is the definition's
+answered-is : {A : Type 0} (r : Refused) (v w : A) → replyUnless r v ≡ answered w → (r ≡ accepted) × (v ≡ w)
+answered-is accepted v w e = (refl, cc)
+answered-is (byLine n) v w e = absurd (let z : _≡_ {A = ℕ} 0 1 = cc in omega arith)
+answered-is (byRecord n k) v w e = absurd (let z : _≡_ {A = ℕ} 0 1 = cc in omega arith)
+answered-is (byPlace n p) v w e = absurd (let z : _≡_ {A = ℕ} 0 1 = cc in omega arith)
 
 abbrev refusal : (s rf gmo : List ℕ) → Refused
 refusal s rf gmo = firstLine (decoded s .count) (verdictLines s rf gmo)
@@ -99,10 +104,10 @@ demand2 : (s rf gmo : List ℕ) → Demand2 s rf gmo
 unfolding verdictOf
 demand2 s rf gmo = record {
   allowed-exactly = λ v e.
-      let q = judged-is (refusal s rf gmo) (verdict (decoded s) rf gmo) v e in
+      let q = answered-is (refusal s rf gmo) (verdict (decoded s) rf gmo) v e .1 in
       let x = allowed-exactly (decoded s) rf gmo in
       (λ h. x .0 (q ∙ h), λ h. sym q ∙ x .1 h);
-  first-broken = λ v e. subst (Says (decoded s) rf gmo) (judged-is (refusal s rf gmo) (verdict (decoded s) rf gmo) v e) (says (decoded s) rf gmo);
+  first-broken = λ v e. subst (Says (decoded s) rf gmo) (answered-is (refusal s rf gmo) (verdict (decoded s) rf gmo) v e .1) (says (decoded s) rf gmo);
 }
 
 pub demands : Demands
@@ -119,3 +124,10 @@ step-machine s ok tso = (machine-right (tso-read s ok tso), buffers-right (tso-r
 
 pub outcomes-listed : OutcomesListed
 outcomes-listed = every-outcome
+
+pub advice-means : AdviceMeans
+unfolding adviceReply adviseLines readRefusal
+advice-means s b a e =
+    let h = answered-is (firstLine (decoded s .count) (adviseLines s b)) (advice (decoded s) b) a e in
+    let ok = passed-both _ (readingLines s) _ (h .0) .0 in
+    subst (AdviceRight (decoded s) b) (h .1) (advice-right (decoded s) b (read-memory s ok))

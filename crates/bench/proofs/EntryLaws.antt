@@ -44,9 +44,12 @@ use Rattle.answers.specs.Candidate.{candidateLines, orderLines}
 use Rattle.pair_rules.specs.PairRules.{returnedLines, rulesBetween}
 use Rattle.pair_rules.proofs.PairLaws.{RuledAs}
 use Rattle.steps.specs.Replies.{StepAnswer, IfTso, answerTo, stepLines, stepReply}
+use Rattle.advice.specs.Advice.{Advice, advice}
+use Rattle.advising.specs.Replies.{adviceLines, tableAdvice}
 use Rattle.bench.specs.Candidate.{verdictLines, verdictOf, returnsLines, returnsRefusal, returnsBuffer}
 use Rattle.bench.specs.PairRules.{rulesLines, rulesOf}
 use Rattle.bench.specs.Steps.{machineLines, machineReply}
+use Rattle.bench.specs.Advice.{adviseLines, adviceReply}
 use Rattle.bench.specs.Search.{Searched, ofBlockBy, ofText, linesTo, refusalTo, replyTo, bufferLeft, textReply, textBuffer}
 
 module _ (s : List ℕ) (ok : readRefusal s ≡ accepted) where
@@ -221,3 +224,18 @@ module _ (s bs : List ℕ) (b : ℕ) where
   step-answered t r ok e h =
       subst (λ (x : Table). r ≡ stepReply x bs b) e h
       ∙ entry-own (decoded s .count) (readingLines s) (stepLines (decoded s) bs b) (answerTo (decoded s) bs b) ok
+
+-- The entry for advice.
+module _ (s : List ℕ) (b : ℕ) where
+  -- reading refuses
+  pub advice-declined : (q : Refused) → q ≡ readRefusal s → q ≢ accepted → refused q ≡ adviceReply s b
+  unfolding adviceReply adviseLines readRefusal
+  advice-declined = entry-declined (decoded s .count) (readingLines s) (adviceLines (decoded s) b) (advice (decoded s) b)
+
+  -- it doesn't: the table's lines and its sets of fences decide
+  pub advice-answered : (t : Table) (r : Reply Refused Advice) → readRefusal s ≡ accepted → t ≡ decoded s → r ≡ tableAdvice t b →
+      r ≡ adviceReply s b
+  unfolding adviceReply adviseLines readRefusal tableAdvice
+  advice-answered t r ok e h =
+      subst (λ (x : Table). r ≡ tableAdvice x b) e h
+      ∙ entry-own (decoded s .count) (readingLines s) (adviceLines (decoded s) b) (advice (decoded s) b) ok

@@ -24,6 +24,8 @@ use Rattle.model.specs.Says.{AllHold, Says}
 use Rattle.model.specs.Witness.{witnessFor}
 use Rattle.model.specs.Prefixes.{prefixesBy}
 use Rattle.machine.specs.Statements.{MachineRight, BuffersRight}
+use Rattle.advice.specs.Advice.{Advice}
+use Rattle.advice.specs.Statements.{AdviceRight}
 use Rattle.text.specs.Texts.{tableOfText, textLines, textRefusal}
 use Rattle.search.specs.declared.Reply as code
 use Rattle.search.specs.Replies.{replyOf, lengthOf, prefixLength}
@@ -31,6 +33,7 @@ use Rattle.bench.specs.Candidate.{verdictLines, verdictOf, returnsLines,
 use Rattle.bench.specs.PairRules.{rulesLines, rulesOf}
 use Rattle.bench.specs.Steps.{machineLines, machineReply}
 use Rattle.bench.specs.Outcomes.{listingLines, listingReply, listingBuffer, OutcomeCall, OutcomeCalls, EveryOutcome}
+use Rattle.bench.specs.Advice.{adviseLines, adviceReply}
 use Rattle.bench.specs.Search.{Searched, ofBlock, ofBlockPruned, replyTo, bufferLeft, searchLines, searchReply, searchBuffer}
 use Rattle.bench.specs.Search.{prunedLines, prunedReply, prunedBuffer, ofText, textSearchLines, textReply, textBuffer}
 
@@ -60,6 +63,8 @@ module _ (s : List ℕ) (t : Table) (rf gmo start out : List ℕ) (a b allowance
     pub rules : Exactly (decoded s .count) (rulesLines s rf) (refusalIn (rulesOf s rf a b))
     -- a step of the machine: lines 1 to 11, 21 and 24
     pub step : (bs : List ℕ) → Exactly (decoded s .count) (machineLines s bs b) (refusalIn (machineReply s bs b))
+    -- advice: lines 1 to 11, 21, 22 and 17
+    pub advise : Exactly (decoded s .count) (adviseLines s allowance) (refusalIn (adviceReply s allowance))
     -- the returned list of an order: lines 1 to 13 and 16
     pub returns : Exactly (decoded s .count) (returnsLines s gmo out) (returnsRefusal s gmo out)
     pub returns-unaltered : Unaltered (returnsRefusal s gmo out) out (returnsBuffer s gmo out)
@@ -204,3 +209,8 @@ StepMachine =
 -- "Outcomes come in ascending order, each once": one claim over any list of calls on the same bytes
 abbrev pub OutcomesListed : Type 0
 OutcomesListed = (s : List ℕ) (cs : List OutcomeCall) → OutcomeCalls s [] cs → EveryOutcome s cs
+
+-- "No smaller set than the one advised forbids the outcome", nor does one of its size that is tried before it, and with it no order is a
+-- witness; before a set that is undecided each leaves a witness; where fences don't help, all sets do.
+abbrev pub AdviceMeans : Type 0
+AdviceMeans = (s : List ℕ) (b : ℕ) (a : Advice) → adviceReply s b ≡ answered a → AdviceRight (decoded s) b a

@@ -4,5 +4,6 @@ pub mod TextReplies
 pub mod PairRules
 pub mod Steps
 pub mod Outcomes
+pub mod Advice
 pub mod Demands
 pub mod Stronger

@@ -1,4 +1,5 @@
 // The public entries on bytes. Each takes any bytes, lists and numbers, refuses for itself, and has no `requires`.
+use advising::Advice;
 use block::Reading;
 use outcome_listing::OutcomeReply;
 use pair_rules::PairRules;
@@ -24,6 +25,8 @@ ghost use Rattle.steps.specs.Replies.{stepOf};
 ghost use Rattle.bench.specs.Steps.{machineReply};
 ghost use Rattle.outcome_listing.specs.Replies.{mostOutcomes, listingOf, valuesIn, valuesOf};
 ghost use Rattle.bench.specs.Outcomes.{listingReply, listingBuffer, outcomeReply, outcomeBuffer, outcomesReply, outcomesBuffer};
+ghost use Rattle.advising.specs.Replies.{adviceOf};
+ghost use Rattle.bench.specs.Advice.{adviceReply};
 ghost use Rattle.text.specs.Texts.{textRefusal, textTable};
 ghost use Rattle.text.specs.TextRefusals.{textRefusalOf};
 ghost use Rattle.bench.specs.Search.{searchReply, searchBuffer, prunedReply, prunedBuffer, textReply, textBuffer};
@@ -118,6 +121,20 @@ pub fn step(bytes: &[u8], steps: &[u8], b: u64) -> StepReply
         Refusal::None => steps::answer(t, steps, b),
         Refusal::Line(n) => StepReply::Refused(Refusal::Line(n)),
         Refusal::Record(n, k) => StepReply::Refused(Refusal::Record(n, k)),
+    }
+}
+
+// Which fences to add, so that the stated outcome has no witness: each set is searched with the allowance.
+pub fn advise(bytes: &[u8], allowance: u64) -> Advice
+    ensures { λ r. ⌜ adviceOf r ≡ adviceReply (now (bytes .entry)) allowance ⌝ }
+{
+    let reading = block::read(bytes);
+    let refusal = reading.refusal;
+    let t = reading.table;
+    match refusal {
+        Refusal::None => advising::advise(t, allowance),
+        Refusal::Line(n) => Advice::Refused(Refusal::Line(n)),
+        Refusal::Record(n, k) => Advice::Refused(Refusal::Record(n, k)),
     }
 }
 

@@ -11,9 +11,10 @@ ghost use Rattle.bench.specs.Candidate.{verdictOf, returnsRefusal, returnsBuffe
 ghost use Rattle.bench.specs.PairRules.{rulesOf};
 ghost use Rattle.bench.specs.Steps.{machineReply};
 ghost use Rattle.bench.specs.Outcomes.{outcomeReply, outcomeBuffer, outcomesReply, outcomesBuffer};
+ghost use Rattle.bench.specs.Advice.{adviceReply};
 ghost use Rattle.text.specs.Texts.{textRefusal, textTable};
 ghost use Rattle.bench.specs.Search.{searchReply, searchBuffer, prunedReply, prunedBuffer, textReply, textBuffer};
-ghost use Rattle.answer_word.specs.Words.{refusalWord, judgedWord, ruledWord, stepWord, outcomeWord, outcomesWord, replyWord};
+ghost use Rattle.answer_word.specs.Words.{refusalWord, judgedWord, ruledWord, stepWord, outcomeWord, outcomesWord, adviceWord, replyWord};
 ghost use Rattle.capi.specs.Parts.{partRefusal, partOffset, partLength};
 
 // Reading a block.
@@ -89,6 +90,14 @@ pub extern "C" fn ct_outcomes(
     ensures { λ r. ⌜ now (out .exit) ≡ outcomesBuffer (now (block .entry)) (now (previous .entry)) (now (out .entry)) allowance ⌝ }
 {
     answer_word::outcomes_word(bench::outcomes(block, previous, out, allowance))
+}
+
+// Which fences to add, so that the stated outcome has no witness.
+#[no_mangle]
+pub extern "C" fn ct_advise(block: &[u8], allowance: u64) -> u64
+    ensures { λ r. ⌜ r ≡ adviceWord (adviceReply (now (block .entry)) allowance) ⌝ }
+{
+    answer_word::advice_word(bench::advise(block, allowance))
 }
 
 // Writes the returned list that an order determines.

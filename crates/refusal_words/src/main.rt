@@ -1,10 +1,8 @@
 // Prints the table of the refusals in words, which is to be that of docs/refusals.txt.
 use console::Line;
 
-// The numbers of refusals; one of them isn't given yet.
+// The number of the last refusal.
 const LAST: u8 = 24;
-
-const FREE: u8 = 22;
 
 fn row(n: u8) {
     let begun = Line::output().number(console::wide(n)).text(b"\t");
@@ -14,9 +12,7 @@ fn row(n: u8) {
 fn main() {
     let mut n: u8 = 1;
     while n <= LAST {
-        if n != FREE {
-            row(n);
-        }
+        row(n);
         n += 1;
     }
 }

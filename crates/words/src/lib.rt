@@ -5,8 +5,7 @@ ghost use mathlib.Core.Path.{_≡_};
 ghost use Rattle.refusals.specs.Refusals.{refusalOf};
 ghost use Rattle.words.specs.Numbers.{numberOf};
 
-// What refusal n means: row n of this table, whose rows from 1 on are those of docs/refusals.txt. No refusal has the number of an
-// empty row.
+// What refusal n means: row n of this table, whose rows from 1 on are those of docs/refusals.txt.
 pub fn sentence(line: Line, n: u8) -> Line {
     let table = b"
 the test is shorter than a block of 512 bytes, or isn't as long as those of its edition: 512 bytes in edition 1, 1,536 in edition 2; or the text is longer than 2,048 bytes
@@ -30,7 +29,7 @@ the suite has no block of that number
 no legal text has this byte in this place, or the text ends too soon
 a `not` or a bracket begins a ninth level here, and a condition has at most eight
 a location of the test is touched by no memory event, and its final value isn't stated (in a text: the condition doesn't name it)
-
+more than eight ordinary fences have all bits clear, and advice tries the sets of eight at most
 the condition names an event that doesn't read, or a location that isn't in the test
 the list of steps isn't a run of the machine, the machine doesn't take this step, or the test isn't of model 1
 ";

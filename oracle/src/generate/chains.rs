@@ -146,7 +146,7 @@ fn merged(prng: &mut Prng, first: &Table, second: &Table) -> Table {
 }
 
 /// An event whose masks name events at other places.
-fn renumbered(event: &Event, places: &[usize]) -> Event {
+pub fn renumbered(event: &Event, places: &[usize]) -> Event {
     let moved = |mask: u32| {
         let named = places.iter().enumerate().filter(|&(source, _)| names(mask, source));
         named.fold(0, |mask, (_, place)| mask | 1 << place)

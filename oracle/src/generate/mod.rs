@@ -1,5 +1,7 @@
 //! Deterministic generators: of the stored streams, and of what they are made of.
 
+pub mod advice_calls;
+pub mod advice_tables;
 pub mod amo_texts;
 pub mod breaches;
 pub mod calls;

@@ -16,6 +16,7 @@ pub enum Subcommand {
     Convert,
     Step,
     Outcomes,
+    Advise,
     Report,
 }
 
@@ -63,6 +64,8 @@ pub struct Options {
     pub to: Option<Form>,
     pub all: bool,
     pub output: Option<String>,
+    /// Pairs of accesses, by their event numbers.
+    pub between: Vec<(u8, u8)>,
     pub picture: Option<Picture>,
 }
 
@@ -77,6 +80,7 @@ impl Subcommand {
             "convert" => Some(Subcommand::Convert),
             "step" => Some(Subcommand::Step),
             "outcomes" => Some(Subcommand::Outcomes),
+            "advise" => Some(Subcommand::Advise),
             "report" => Some(Subcommand::Report),
             _ => None,
         }
@@ -90,6 +94,7 @@ impl Subcommand {
             Subcommand::Convert => help::CONVERT,
             Subcommand::Step => help::STEP,
             Subcommand::Outcomes => help::OUTCOMES,
+            Subcommand::Advise => help::ADVISE,
             Subcommand::Report => help::REPORT,
         }
     }
@@ -100,8 +105,11 @@ impl Subcommand {
             "--model" => self != Subcommand::Step,
             "-v" | "--verbose" | "--herd" | "--expect" => self == Subcommand::Decide,
             "--svg" | "--dot" => self == Subcommand::Show,
-            "-o" | "--output" => [Subcommand::Convert, Subcommand::Show, Subcommand::Report].contains(&self),
+            "-o" | "--output" => {
+                matches!(self, Subcommand::Convert | Subcommand::Show | Subcommand::Advise | Subcommand::Report)
+            }
             "--all" => [Subcommand::Convert, Subcommand::Outcomes].contains(&self),
+            "--between" => self == Subcommand::Advise,
             "--to" => self == Subcommand::Convert,
             _ => false,
         }
@@ -129,6 +137,7 @@ pub fn read(words: impl Iterator<Item = OsString>) -> Result<Request, String> {
         to: None,
         all: false,
         output: None,
+        between: Vec::new(),
         picture: None,
     };
     let mut are_files = false;
@@ -162,6 +171,7 @@ impl Options {
             "--svg" => self.picture = Some(Picture::Svg),
             "--dot" => self.picture = Some(Picture::Dot),
             "-o" | "--output" => self.output = Some(value()?),
+            "--between" => self.between.push(pair(&value()?)?),
             "--visit" => self.visit = count(&value()?)?,
             "--expect" => self.expect = Some(expected(&value()?)?),
             "--model" => self.model = Some(model(&value()?)?),
@@ -183,6 +193,9 @@ impl Options {
         if self.subcommand == Subcommand::Step && self.files == [STANDARD_INPUT] {
             return Err("step reads the steps from standard input, so the test has to be a file".to_string());
         }
+        if self.subcommand == Subcommand::Advise && self.output.is_some() && self.files.len() > 1 {
+            return Err("advise takes one file where it writes a test".to_string());
+        }
         let is_one = self.picture.is_some() || self.output.is_some();
         if self.subcommand == Subcommand::Show && is_one && self.files.len() > 1 {
             return Err("show takes one file where it writes a picture or to a file".to_string());
@@ -196,6 +209,12 @@ impl Options {
 
 fn count(word: &str) -> Result<u64, String> {
     word.parse().map_err(|_| format!("--visit takes a number, and not {}", quoted(word)))
+}
+
+/// Two event numbers, as in `0,1`.
+fn pair(word: &str) -> Result<(u8, u8), String> {
+    let numbers = word.split_once(',').and_then(|(a, b)| Some((a.parse().ok()?, b.parse().ok()?)));
+    numbers.ok_or(format!("--between takes two event numbers, such as 0,1, and not {}", quoted(word)))
 }
 
 fn expected(word: &str) -> Result<Expected, String> {
@@ -255,9 +274,17 @@ mod tests {
     #[test]
     fn each_subcommand_has_its_help() {
         assert_eq!(read_words("--help"), Ok(Request::Help(help::WHOLE)));
-        let texts = [help::DECIDE, help::SHOW, help::EXPLAIN, help::CONVERT, help::STEP, help::OUTCOMES, help::REPORT];
-        let words = ["decide", "show", "explain", "convert", "step", "outcomes", "report"];
-        for (word, text) in words.into_iter().zip(texts) {
+        let texts = [
+            (help::DECIDE, "decide"),
+            (help::SHOW, "show"),
+            (help::EXPLAIN, "explain"),
+            (help::CONVERT, "convert"),
+            (help::STEP, "step"),
+            (help::OUTCOMES, "outcomes"),
+            (help::ADVISE, "advise"),
+            (help::REPORT, "report"),
+        ];
+        for (text, word) in texts {
             assert_eq!(read_words(&format!("{word} x --help")), Ok(Request::Help(text)));
             assert!(text.contains("example: ") && text.contains(&format!("cogthunder {word} ")));
         }
@@ -278,6 +305,8 @@ mod tests {
         assert_eq!(sentence("convert --to page x"), "--to takes block, litmus or text, and not `page`");
         assert_eq!(sentence("decide --model tso x"), "--model takes rvwmo or rvtso, and not `tso`");
         assert!(sentence("step --model rvtso x").starts_with("there is no option `--model` here"));
+        assert_eq!(sentence("advise --between 1 x"), "--between takes two event numbers, such as 0,1, and not `1`");
+        assert_eq!(sentence("advise x y -o z"), "advise takes one file where it writes a test");
         assert_eq!(sentence("step x y"), "step takes one file; the steps come from standard input");
         assert_eq!(sentence("step -"), "step reads the steps from standard input, so the test has to be a file");
     }

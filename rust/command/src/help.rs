@@ -12,13 +12,15 @@ usage: cogthunder SUBCOMMAND [OPTIONS] FILE..
   convert FILE     between litmus tests, blocks and texts
   step FILE        a test on a machine with store buffers, step by step (RVTSO)
   outcomes FILE..  every outcome that the rules allow, and which of them are asked for
+  advise FILE..    between which accesses a fence is missing, for the outcome to be forbidden
   report FILE..    one page about all tests: verdicts, pictures and reasons
 
 A FILE is a litmus test (RISC-V instructions in columns, as herd7 reads them), a block of this
 library, many blocks one behind the other, or a test as a text of numbers (docs/FORMAT.md); what
 it holds is seen from its contents, and `-` is standard input. `cogthunder SUBCOMMAND --help` says more.
 
-Exit status: 0; 1 if a verdict isn't the expected one; 2 if something can't be read or written.
+Exit status: 0; 1 if a verdict isn't the expected one, or no fences help; 2 if something can't be
+read or written.
 
 example: cogthunder decide samples/litmus/*.litmus
 ";
@@ -146,6 +148,29 @@ Where what is written, an address or a branch depends on what is read, a litmus 
 tables, and its outcomes are gathered from all of them. Each SC is taken to have succeeded.
 
 example: cogthunder outcomes samples/litmus/SB.litmus
+";
+
+/// Of `advise`.
+pub const ADVISE: &str = "\
+usage: cogthunder advise [OPTIONS] FILE..
+
+Says between which accesses a fence is missing: the fewest that forbid the outcome of a litmus test
+or a block, and of sets of as many the first. A fence is tried between each two neighbouring accesses
+of a hart, in at most eight places; a test that has fences with no sets (`fence 0,0`) is asked about
+those. With a fence all accesses before it come before all behind it (`fence rw,rw`). The proved
+library gives the advice on a table; where several choices of values meet the condition of a litmus
+test, each set of fences is tried on all its tables.
+
+  --between A,B       try a fence between the events A and B, neighbours of a hart, by the numbers that
+                      `show` gives them; this may be said up to eight times
+  -o, --output OUT    a file to write: the test with these fences, in the form that it has
+  --model MODEL       rvwmo or rvtso: the model of litmus tests (rvwmo), and what a block must state
+  --visit N           give up on a set of fences after N prefixes (100000000)
+
+Exit status: 0 if the outcome is forbidden, with some fences or as it is; 1 if fences don't help, or
+if that isn't decided; 2 if a file can't be read or written.
+
+example: cogthunder advise samples/litmus/MP.litmus -o MP-fixed.litmus
 ";
 
 /// Of `report`.

@@ -1,6 +1,7 @@
 //! The command `cogthunder`: litmus tests in, verdicts of the proved library out. Reading isn't proved; `show` says what was
 //! understood.
 
+mod advise;
 mod arguments;
 mod case;
 mod choices;
@@ -11,6 +12,7 @@ mod dot;
 mod drawing;
 mod error;
 mod explain;
+mod fencing;
 mod flow;
 mod graph;
 mod help;
@@ -50,7 +52,7 @@ use std::process::ExitCode;
 #[derive(Clone, Copy, PartialEq, Eq, Debug)]
 pub enum Status {
     Good = 0,
-    /// A verdict isn't the expected one.
+    /// A verdict isn't the expected one, or no fences are found that forbid an outcome.
     Unexpected = 1,
     /// Something couldn't be read or written.
     Unusable = 2,
@@ -77,6 +79,7 @@ fn run(options: &Options, out: &mut Output) -> Result<Status, String> {
         Subcommand::Convert => convert::run(options, out),
         Subcommand::Step => step::run(options, out),
         Subcommand::Outcomes => outcomes::run(options, out),
+        Subcommand::Advise => advise::run(options, out),
         Subcommand::Report => report::run(options, out),
     }
 }

@@ -85,7 +85,11 @@ fn refused(refusal: Refusal) -> Error {
 /// The tests of a file, each of which may be refused. A model that is asked for is that of a litmus test, and has to be the one
 /// that a block states; texts are of RVWMO.
 pub fn tests(file: &str, model: Option<Model>) -> Result<Vec<Result<Source, Error>>, Error> {
-    match input::read(file)? {
+    of_contents(file, input::read(file)?, model)
+}
+
+fn of_contents(file: &str, contents: Contents, model: Option<Model>) -> Result<Vec<Result<Source, Error>>, Error> {
+    match contents {
         Contents::Litmus(text) => {
             let mut test = litmus::read(&text)?;
             test.model = model.unwrap_or(test.model);
@@ -133,7 +137,12 @@ fn blocks(file: &str, bytes: &[u8], model: Option<Model>) -> Vec<Result<Source, 
 
 /// The only test of a file.
 pub fn only(file: &str, model: Option<Model>) -> Result<Source, Error> {
-    let mut tests = tests(file, model)?;
+    only_of(file, input::read(file)?, model)
+}
+
+/// The same of a file that has been read.
+pub fn only_of(file: &str, contents: Contents, model: Option<Model>) -> Result<Source, Error> {
+    let mut tests = of_contents(file, contents, model)?;
     if tests.len() != 1 {
         return Err(Error::new(format!("the file has {} tests, and this takes one", tests.len())));
     }

@@ -153,7 +153,7 @@ fn standard_input_is_read() {
 fn what_cannot_be_done_is_one_sentence_with_status_2() {
     let block = repository("samples/C1.block");
     let states = format!("{block}: the test states the model RVWMO, and not RVTSO");
-    let refusals: [(&[&str], &str); 12] = [
+    let refusals: [(&[&str], &str); 13] = [
         (&[], "a subcommand is missing"),
         (&["decode"], "there is no subcommand `decode`"),
         (&["decide", "--fast", "x"], "there is no option `--fast` here"),
@@ -163,6 +163,7 @@ fn what_cannot_be_done_is_one_sentence_with_status_2() {
         (&["convert", "."], ".: this is a directory, and not a file"),
         (&["explain", "."], ".: this is a directory, and not a file"),
         (&["step", "."], ".: this is a directory, and not a file"),
+        (&["advise", "."], ".: this is a directory, and not a file"),
         (&["report", "."], ".: this is a directory, and not a file"),
         (&["step", &block], &states),
         (&["show", "--model", "rvtso", &block], &states),
@@ -177,13 +178,14 @@ fn what_cannot_be_done_is_one_sentence_with_status_2() {
 #[test]
 fn a_closed_pipe_is_one_sentence_with_status_2() {
     let file = sample("MP");
-    let commands: [&[&str]; 7] = [
+    let commands: [&[&str]; 8] = [
         &["--help"],
         &["decide", &file],
         &["show", &file],
         &["show", "--svg", &file],
         &["explain", &file],
         &["step", &file],
+        &["advise", &file],
         &["report", &file],
     ];
     for words in commands {

@@ -162,7 +162,7 @@ fn each_malformed_file_gets_one_sentence() {
     for (name, bytes) in files {
         let file = folder.join(&name);
         std::fs::write(&file, bytes).expect("the file can be written");
-        for subcommand in ["decide", "show", "explain", "convert", "step", "report"] {
+        for subcommand in ["decide", "show", "explain", "convert", "step", "advise", "report"] {
             check(&name, &file, subcommand);
         }
         std::fs::remove_file(&file).expect("the file can be removed");

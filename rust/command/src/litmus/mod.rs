@@ -5,6 +5,7 @@ mod arithmetic;
 mod branches;
 mod condition;
 mod cursor;
+pub mod edit;
 mod fences;
 mod header;
 mod initial;

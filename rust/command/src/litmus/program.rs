@@ -15,7 +15,7 @@ pub const MOST_HARTS: usize = 4;
 const MOST_INSTRUCTIONS: usize = 500;
 
 /// A line of one column: the tokens of its cell.
-type Cell<'a> = Vec<Token<'a>>;
+pub type Cell<'a> = Vec<Token<'a>>;
 
 /// An instruction before it is decoded, and the labels of its hart.
 struct Column<'a> {
@@ -23,47 +23,66 @@ struct Column<'a> {
     labels: HashMap<&'a str, usize>,
 }
 
+/// A row of the columns: a cell for each hart, and the mark that ends it.
+pub struct Row<'a> {
+    pub cells: Vec<Cell<'a>>,
+    pub end: Token<'a>,
+}
+
 /// Reads the columns up to the condition: the instructions of each hart.
 pub fn read(cursor: &mut Cursor, names: &mut Names) -> Result<Vec<Vec<Instruction>>, Error> {
-    let harts = heads(cursor)?;
+    let rows = rows(cursor)?;
     let mut columns: Vec<Column> = Vec::new();
-    columns.resize_with(harts, || Column { cells: Vec::new(), labels: HashMap::new() });
-    while !is_condition_next(cursor) {
-        let line = cursor.line();
-        let row = row(cursor)?;
-        if row.len() != harts {
-            return Err(Error::at(line, format!("the row has {} columns, and there are {harts} harts", row.len())));
-        }
-        for (column, cell) in columns.iter_mut().zip(row) {
+    columns.resize_with(rows[0].cells.len(), || Column { cells: Vec::new(), labels: HashMap::new() });
+    for row in rows.into_iter().skip(1) {
+        for (column, cell) in columns.iter_mut().zip(row.cells) {
             column.add(cell)?;
         }
     }
     columns.into_iter().map(|column| column.decode(names)).collect()
 }
 
-/// `P0 | P1 ;`, and the number of harts.
-fn heads(cursor: &mut Cursor) -> Result<usize, Error> {
+/// The heads of the columns, and the rows below them up to the condition.
+pub fn rows<'a>(cursor: &mut Cursor<'a>) -> Result<Vec<Row<'a>>, Error> {
+    let heads = heads(cursor)?;
+    let harts = heads.cells.len();
+    let mut rows = vec![heads];
+    while !is_condition_next(cursor) {
+        let line = cursor.line();
+        let row = row(cursor)?;
+        if row.cells.len() != harts {
+            let columns = row.cells.len();
+            return Err(Error::at(line, format!("the row has {columns} columns, and there are {harts} harts")));
+        }
+        rows.push(row);
+    }
+    Ok(rows)
+}
+
+/// `P0 | P1 ;`
+fn heads<'a>(cursor: &mut Cursor<'a>) -> Result<Row<'a>, Error> {
     let line = cursor.line();
     let row = row(cursor)?;
-    for (hart, cell) in row.iter().enumerate() {
+    for (hart, cell) in row.cells.iter().enumerate() {
         let text: String = cell.iter().map(|token| token.text).collect();
         if text != format!("P{hart}") {
             let sentence = format!("the columns must be headed `P0 | P1 ;` and so on, and not {}", quoted(&text));
             return Err(Error::at(line, sentence));
         }
     }
-    if row.len() > MOST_HARTS {
-        return Err(Error::at(line, format!("there are {} harts, and a test has at most four", row.len())));
+    let harts = row.cells.len();
+    if harts > MOST_HARTS {
+        return Err(Error::at(line, format!("there are {harts} harts, and a test has at most four")));
     }
-    Ok(row.len())
+    Ok(row)
 }
 
 /// The cells up to the end of a row.
-fn row<'a>(cursor: &mut Cursor<'a>) -> Result<Vec<Cell<'a>>, Error> {
+fn row<'a>(cursor: &mut Cursor<'a>) -> Result<Row<'a>, Error> {
     let mut cells = vec![Vec::new()];
     loop {
         match cursor.next() {
-            Some(token) if token.is(";") => return Ok(cells),
+            Some(end) if end.is(";") => return Ok(Row { cells, end }),
             Some(token) if token.is("|") => cells.push(Vec::new()),
             Some(token) => cells.last_mut().expect("there is a first cell").push(token),
             None => return Err(cursor.error("`;` behind a row of instructions")),
@@ -85,15 +104,11 @@ fn is_instruction(cursor: &Cursor) -> bool {
 impl<'a> Column<'a> {
     /// Takes the labels of a cell, and keeps the instruction behind them.
     fn add(&mut self, cell: Cell<'a>) -> Result<(), Error> {
-        let mut rest = &cell[..];
-        while let [label, colon, behind @ ..] = rest {
-            if label.kind != Kind::Word || !colon.is(":") {
-                break;
-            }
+        let rest = behind_labels(&cell);
+        for label in cell[..cell.len() - rest.len()].iter().step_by(2) {
             if self.labels.insert(label.text, self.cells.len()).is_some() {
                 return Err(Error::at(label.line, format!("the label {} stands twice", quoted(label.text))));
             }
-            rest = behind;
         }
         if let [first, ..] = rest {
             if self.cells.len() == MOST_INSTRUCTIONS {
@@ -114,6 +129,14 @@ impl<'a> Column<'a> {
             instructions.push(Instruction { action, line: operands.line, text: text(cell) });
         }
         Ok(instructions)
+    }
+}
+
+/// The instruction of a cell, behind its labels, each with its colon; nothing if there is none.
+pub fn behind_labels<'c, 'a>(cell: &'c [Token<'a>]) -> &'c [Token<'a>] {
+    match cell {
+        [label, colon, behind @ ..] if label.kind == Kind::Word && colon.is(":") => behind_labels(behind),
+        _ => cell,
     }
 }
 

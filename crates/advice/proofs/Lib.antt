@@ -1,0 +1,4 @@
+pub mod SetsLaws
+pub mod FenceLaws
+pub mod AdviceLaws
+pub mod WorkedAdvice

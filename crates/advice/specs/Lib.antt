@@ -1,0 +1,4 @@
+pub mod Sets
+pub mod Advice
+pub mod Statements
+pub mod Worked

@@ -1,0 +1,1 @@
+// Which fences to add: definitions and their theory, no code.
