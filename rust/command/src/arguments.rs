@@ -105,9 +105,7 @@ impl Subcommand {
             "--model" => self != Subcommand::Step,
             "-v" | "--verbose" | "--herd" | "--expect" => self == Subcommand::Decide,
             "--svg" | "--dot" => self == Subcommand::Show,
-            "-o" | "--output" => {
-                matches!(self, Subcommand::Convert | Subcommand::Show | Subcommand::Advise | Subcommand::Report)
-            }
+            "-o" | "--output" => !matches!(self, Subcommand::Decide | Subcommand::Explain | Subcommand::Outcomes),
             "--all" => [Subcommand::Convert, Subcommand::Outcomes].contains(&self),
             "--between" => self == Subcommand::Advise,
             "--to" => self == Subcommand::Convert,

@@ -109,7 +109,7 @@ example: cogthunder convert samples/litmus/MP.litmus -o MP.block
 
 /// Of `step`.
 pub const STEP: &str = "\
-usage: cogthunder step FILE
+usage: cogthunder step [OPTIONS] FILE
 
 Takes a litmus test, or a block that states RVTSO, through a machine of single steps: a hart issues
 its next event, or drains its oldest buffered store to memory. Stores and SCs wait in the hart's
@@ -122,6 +122,9 @@ Each line of standard input is read word by word:
   4 5 6 7             hart 0, 1, 2 or 3 drains its oldest buffered store
   undo                takes the last step back
   quit                ends, as the end of the input does
+
+  -o, --output OUT    a file to write at the end: the steps, as standard input takes them, so that the
+                      run can be replayed: cogthunder step FILE < OUT
 
 Behind each line stand memory, the buffers, the order of the drains, loads, LRs and AMOs so far, and
 the steps that can be taken now; at the end of a run also what the library says of its outcome.

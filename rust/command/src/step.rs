@@ -16,7 +16,7 @@ use std::io::{stdin, BufRead, IsTerminal};
 const DRAIN: u8 = 4;
 const STEPS: std::ops::Range<u8> = 0..2 * DRAIN;
 
-/// Reads steps from standard input, and shows the machine behind each line.
+/// Reads steps from standard input, shows the machine behind each line, and writes the steps to a file if one is named.
 pub fn run(options: &Options, out: &mut Output) -> Result<Status, String> {
     let file = &options.files[0];
     let mut session = match session(file) {
@@ -28,6 +28,15 @@ pub fn run(options: &Options, out: &mut Output) -> Result<Status, String> {
     };
     out.lines(&session.head())?;
     out.lines(&session.machine().lines())?;
+    let status = follow(&mut session, out)?;
+    if let Some(path) = &options.output {
+        out.to(Some(path), session.written().as_bytes())?;
+    }
+    Ok(status)
+}
+
+/// Takes the steps of standard input, up to its end or `quit`.
+fn follow(session: &mut Session, out: &mut Output) -> Result<Status, String> {
     let mut status = Status::Good;
     prompt(out)?;
     for line in stdin().lock().lines() {
@@ -107,6 +116,12 @@ impl Session {
             (_, Ok(number)) if STEPS.contains(&number) => self.step(number).map(Turn::Said),
             _ => Err(format!("{} is no step from 0 to 7, undo or quit", quoted(word))),
         }
+    }
+
+    /// The steps so far on one line, as standard input takes them.
+    fn written(&self) -> String {
+        let numbers: Vec<String> = self.steps.iter().map(u8::to_string).collect();
+        numbers.join(" ") + "\n"
     }
 
     fn undo(&mut self) -> Result<String, String> {

@@ -71,6 +71,20 @@ fn steps_are_taken_back() {
 }
 
 #[test]
+fn a_run_is_saved_and_replayed() {
+    let folder = folder("saved-run");
+    let saved = folder.join("run").to_str().expect("the path is a text").to_string();
+    let (first, _, status) = fed(&["step", &sample("SB"), "-o", &saved], b"0 0 undo 1\n4 1\nquit");
+    assert_eq!(status, 0);
+    let run = std::fs::read(&saved).expect("the steps are written");
+    assert_eq!(run, b"0 1 4 1\n");
+    let (again, err, status) = fed(&["step", &sample("SB")], &run);
+    assert_eq!((err.as_str(), status), ("", 0));
+    let behind = |out: &str| out.rsplit("memory: ").next().map(str::to_string);
+    assert_eq!(behind(&again), behind(&first));
+}
+
+#[test]
 fn a_step_that_is_not_taken_leaves_the_machine_where_it_is() {
     let (lines, err, status) = stepped(&sample("SB"), "4 0 2 x -1 256 8 0 0 4");
     let sentences = [
