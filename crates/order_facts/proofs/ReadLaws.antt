@@ -67,7 +67,7 @@ module _ (t : Table) (room : t .count ≤ capacity) (placed r : ℕ) where
       ap (λ (b : Bool). lastOr (λ w. b && own t r w && not (bit placed w)) (t .count) (below (t .count))) (sym h)
 
   -- None is missing: nothing is forwarded.
-  none-forwards : reads t r ≡ true → missing ≡ 0 → ltb (forwarder t (bit placed) r) (t .count) ≡ false
+  pub none-forwards : reads t r ≡ true → missing ≡ 0 → ltb (forwarder t (bit placed) r) (t .count) ≡ false
   none-forwards h e =
       ap (λ (f : ℕ). ltb f (t .count)) (forwarder-is h ∙ mask-none-last late (t .count) (sym missing-is ∙ e))
       ∙ le-ltb (t .count) (t .count) (omega arith)
@@ -98,7 +98,7 @@ module _ (t : Table) (room : t .count ≤ capacity) (placed r : ℕ) where
     last-is = subst (λ (m : ℕ). (lastOr late (t .count) (below (t .count)) ≡ highest m) × (highest m < t .count)) (sym missing-is)
         (mask-last late (t .count) room (λ e. n (missing-is ∙ e)))
 
-    forwarder-w : forwarder t (bit placed) r ≡ w
+    pub forwarder-w : forwarder t (bit placed) r ≡ w
     forwarder-w = forwarder-is reader ∙ last-is .0
 
     pub w-counted : w < t .count

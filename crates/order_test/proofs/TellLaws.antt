@@ -6,7 +6,7 @@ use mathlib.Core.Bool.{Bool, true, false, not, _&&_, _||_, and-true}
 use mathlib.Core.List.{List}
 use lib.ListN.{getD}
 use lib.Bits.{bitAnd, bitXor}
-use lib.Dec.{eqb}
+use lib.Dec.{eqb, ltb}
 use borrow.Author.Tests.{ltb-true}
 use Rattle.lists.specs.Below.{some}
 use Rattle.lists.proofs.SomeLaws.{some-at, some-found}
@@ -19,9 +19,9 @@ use Rattle.masks.proofs.SetLaws.{bit-without}
 use Rattle.masks.proofs.BelowLaws.{mask-at}
 use Rattle.table.specs.declared.Table.{Table}
 use Rattle.table.specs.Events.{capacity, reads, writes}
-use Rattle.placing.specs.Guards.{mayRead, mayWrite, mayPlace, readsStated}
+use Rattle.placing.specs.Guards.{forwarder, mayRead, mayWrite, mayPlace, readsStated}
 use Rattle.order_facts.specs.Facts.{maskBy, ownWriter, needed, opens, grounds, isOpen, guards, right, good}
-use Rattle.order_facts.proofs.ReadLaws.{read-none, stated-none, w-counted, read-some, stated-some}
+use Rattle.order_facts.proofs.ReadLaws.{none-forwards, read-none, stated-none, forwarder-w, w-counted, read-some, stated-some}
 use Rattle.order_facts.proofs.WriteLaws.{bars, write-bars, open-mask}
 use Rattle.fact_rows.specs.FactRows.{row, mask, masksBy, Facts, ownRow, needsRow, windowRow, groundRow, guardRow, rightRow}
 use Rattle.order_test.specs.Testing.{Tells, TellsGood, openBy}
@@ -57,6 +57,11 @@ module _ (facts : List (List ℕ)) (placed e : ℕ) where
       sym (stated-none t (room f) placed e value (sym (missing-is t f l) ∙ sym q ∙ z)
       ∙ sym (ap (λ (x : ℕ). bit x e) g ∙ mask-bit t (good t value) e l))
 
+  -- nothing is forwarded to it
+  pub tell-forwards-none : (m : ℕ) → m ≡ missing → m ≡ 0 → (t : Table) → Facts t facts → e < t .count → reads t e ≡ true →
+      ltb (forwarder t (bit placed) e) (t .count) ≡ false
+  tell-forwards-none m q z t f l h = none-forwards t (room f) placed e h (sym (missing-is t f l) ∙ sym q ∙ z)
+
   some-missing : (t : Table) → Facts t facts → e < t .count → (m : ℕ) → m ≡ missing → (m ≡ 0 → ⊥) →
       bitXor (maskBy t (ownWriter t e)) (bitAnd (maskBy t (ownWriter t e)) placed) ≡ 0 → ⊥
   some-missing t f l m q n z = n (q ∙ missing-is t f l ∙ z)
@@ -76,6 +81,16 @@ module _ (facts : List (List ℕ)) (placed e : ℕ) where
       (mask-is f needsRow (needed t) (f .needs) w (subst (λ (x : ℕ). x < t .count) (sym i) (w-counted t (room f) placed e s))
       ∙ ap (λ (x : ℕ). maskBy t (needed t x)) i)
       ∙ sym (read-some t (room f) placed e s)
+
+  -- it is forwarded to it
+  pub tell-forwards : (m w : ℕ) → m ≡ missing → (m ≡ 0 → ⊥) → w ≡ highest m → (t : Table) → Facts t facts → e < t .count →
+      (forwarder t (bit placed) e ≡ w) × (w < t .count)
+  tell-forwards m w q n h t f l =
+      let s = some-missing t f l m q n in
+      let i = highest-is t f l m w q h in (
+        forwarder-w t (room f) placed e s ∙ sym i,
+        subst (λ (x : ℕ). x < t .count) (sym i) (w-counted t (room f) placed e s),
+      )
 
   pub tell-stated-some : (m w now : ℕ) → m ≡ missing → (m ≡ 0 → ⊥) → w ≡ highest m →
       TellsGood facts now e (λ t value. readsStated t (bit placed) value e) (bit (mask facts rightRow w) e)

@@ -40,7 +40,7 @@ fn written(action: u32, value: u32) -> u32
 }
 
 // A word of the row `PLACES` as a number with room in a row.
-fn place(word: u32) -> usize
+pub fn place(word: u32) -> usize
     ensures { λ r. ⌜ (r ≡ word % capacity) × (r < capacity) ⌝ }
 {
     word as usize % CAPACITY

@@ -8,10 +8,10 @@ use lib.ListN.{length, take}
 use lib.Seq.{take-nil}
 use Rattle.lists.specs.Lists.{_∈_, keep}
 use Rattle.lists.proofs.MemberLaws.{keep-only}
-use Rattle.lists.specs.Ascending.{less}
-use Rattle.lists.proofs.AscendingLaws.{after-above}
+use Rattle.lists.specs.Ascending.{less, Ascending}
+use Rattle.lists.proofs.AscendingLaws.{ascending-keep, after-above}
 use Rattle.sorted_rows.specs.Sorted.{insert, sorted, rows}
-use Rattle.sorted_rows.proofs.SortedLaws.{sorted-ascending, sorted-more, kept-same, kept-more}
+use Rattle.sorted_rows.proofs.SortedLaws.{sorted-ascending, ascending-take, sorted-more, kept-same, kept-more}
 use Rattle.table.specs.declared.Table.{Table}
 use Rattle.prefixes.specs.Listed.{after}
 use Rattle.prefixes.specs.Answer.{Answer, found, noneLeft, spent}
@@ -69,6 +69,13 @@ module _ (t : Table) (previous : List ℕ) (room : ℕ) where
   pub gather-start : Gathering [] 0 []
   unfolding sorted
   gather-start = record { met = []; moved = stay goal l; held = sym (take-nil {A = List ℕ} room) }
+
+  -- the rows ascend
+  pub gathered-ascend : {p : List ℕ} {v : ℕ} {kept : List (List ℕ)} → Gathering p v kept → Ascending kept
+  gathered-ascend g =
+      let all-of = sorted (map (outcomeOf t) (g .met)) in
+      subst Ascending (sym (g .held)) (ascending-take room (after previous all-of)
+      (ascending-keep (less previous) all-of (sorted-ascending (map (outcomeOf t) (g .met)))))
 
   start-all : after [] l ≡ l
   unfolding cleanPrefixes

@@ -6,8 +6,9 @@ use mathlib.Core.Path.{_≡_, refl, sym, ap, ap₂, subst, _∙_}
 use mathlib.Core.Bool.{Bool, true, false, cond}
 use mathlib.Core.List.{List}
 use lib.ListN.{take}
-use Rattle.lists.specs.Ascending.{less}
+use Rattle.lists.specs.Ascending.{less, Ascending}
 use Rattle.sorted_rows.specs.Sorted.{insert, rows}
+use Rattle.sorted_rows.specs.Places.{Puts}
 use Rattle.table.specs.declared.Table.{Table}
 use Rattle.outcomes.specs.Outcomes.{outcomeOf, outcomeLength}
 use Rattle.outcome_values.specs.Giving.{Gives}
@@ -18,17 +19,17 @@ module _ (facts : List (List ℕ)) (gmo : List ℕ) (locations : ℕ) (asked : A
     (gives : Gives facts gmo (asked .readers) locations w value) where
   -- it is above, and was put in
   pub note-put : (above : Bool) → above ≡ less previous (take w value) → above ≡ true → (r : ℕ) (after· : List ℕ) →
-      rows w r after· ≡ take (asked .room) (insert (take w value) (rows w n kept)) → Notes facts gmo locations asked previous n kept r after·
-  note-put above e h r after· put t f v o c m x =
+      Puts (asked .room) (take w value) (rows w n kept) (rows w r after·) → Notes facts gmo locations asked previous n kept r after·
+  note-put above e h r after· put t f v o c m x a =
       let g = gives t f v o c m x in
-      ap (λ (k : ℕ). rows k r after·) (sym (g .1)) ∙ put
+      ap (λ (k : ℕ). rows k r after·) (sym (g .1)) ∙ put (subst (λ (k : ℕ). Ascending (rows k n kept)) (sym (g .1)) a)
       ∙ ap₂ (λ (k : ℕ) (q : List ℕ). take (asked .room) (insert q (rows k n kept))) (g .1) (g .0)
       ∙ ap (λ (b : Bool). cond b (take (asked .room) (insert (outcomeOf t gmo) (rows (outcomeLength t) n kept))) (rows (outcomeLength t) n kept))
       (sym (ap (less previous) (sym (g .0)) ∙ sym e ∙ h))
 
   -- it isn't
   pub note-left : (above : Bool) → above ≡ less previous (take w value) → above ≡ false → Notes facts gmo locations asked previous n kept n kept
-  note-left above e h t f v o c m x =
+  note-left above e h t f v o c m x _ =
       let g = gives t f v o c m x in
       ap (λ (b : Bool). cond b (take (asked .room) (insert (outcomeOf t gmo) (rows (outcomeLength t) n kept))) (rows (outcomeLength t) n kept))
       (sym (ap (less previous) (sym (g .0)) ∙ sym e ∙ h))

@@ -37,7 +37,7 @@ use Rattle.witness_walk.specs.Running.{AtMost}
 use Rattle.outcomes.specs.Outcomes.{readers, outcomeOf, outcomeLength, outcomes}
 use Rattle.outcome_listing.specs.declared.Asked.{Asked}
 use Rattle.outcome_listing.specs.Gathering.{Walks, NextLawful, Notes}
-use Rattle.outcome_listing.proofs.GatherLaws.{Gathering, gather-start, gather-found, gather-end, gather-over, found-lawful, found-counts}
+use Rattle.outcome_listing.proofs.GatherLaws.{Gathering, gather-start, gathered-ascend, gather-found, gather-end, gather-over, found-lawful, found-counts}
 
 -- the set of the readers is the mask of their list
 pub readers-mask : (t : Table) → setsOf t .readers ≡ maskOf (readers t)
@@ -140,7 +140,7 @@ module _ {t : Table} {facts : List (List ℕ)} {preds : List ℕ} {mem : ℕ} (w
           gathered = rw k (subst (λ (x : ℕ). Gathering t previous room (take len order′) x (rows (outcomeLength t) n′ kept′))
               (omega (arith, found-left, s .within))
               (gather-found t previous room (s .gathered) left _ _ is-next _
-              (notes-room (notes t (w .known) (w .values) found-order found-clean r refl))));
+              (notes-room (notes t (w .known) (w .values) found-order found-clean r refl (gathered-ascend t previous room (s .gathered))))));
         }
           where
             o : List ℕ

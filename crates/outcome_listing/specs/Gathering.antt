@@ -4,7 +4,7 @@ use mathlib.Core.Path.{_≡_}
 use mathlib.Core.Bool.{Bool, true, cond}
 use mathlib.Core.List.{List}
 use lib.ListN.{length, take}
-use Rattle.lists.specs.Ascending.{less}
+use Rattle.lists.specs.Ascending.{less, Ascending}
 use Rattle.masks.specs.MaskOf.{maskOf}
 use Rattle.sorted_rows.specs.Sorted.{insert, rows}
 use Rattle.table.specs.declared.Table.{Table}
@@ -36,11 +36,11 @@ NextLawful facts preds mem p b after· o =
     (t : Table) → Walks t facts preds → mem ≡ memoryMask t → clean t p ≡ true →
     answerOf o after· ≡ seek (witnessFor t anyOrder) (after p (cleanPrefixes t)) p b 0
 
--- what the order gives was put among the n rows kept, if it is above the previous outcome
+-- what the order gives was put among the n rows kept, which ascend, if it is above the previous outcome
 abbrev pub Notes : List (List ℕ) → List ℕ → ℕ → Asked → List ℕ → ℕ → List ℕ → ℕ → List ℕ → Type 0
 Notes facts gmo locations asked previous n kept r after· =
     (t : Table) → Facts t facts → Values t facts → isOrder t gmo ≡ true → clean t gmo ≡ true →
-    asked .readers ≡ maskOf (readers t) → locations ≡ t .locations →
+    asked .readers ≡ maskOf (readers t) → locations ≡ t .locations → Ascending (rows (outcomeLength t) n kept) →
     rows (outcomeLength t) r after·
     ≡ cond (less previous (outcomeOf t gmo)) (take (asked .room) (insert (outcomeOf t gmo) (rows (outcomeLength t) n kept)))
     (rows (outcomeLength t) n kept)

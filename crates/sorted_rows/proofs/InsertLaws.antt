@@ -21,9 +21,6 @@ abbrev pub stands : List ℕ → List ℕ → ℕ → ℕ → ℕ → Bool
 stands o l w n p = ltb p n && not (less o (take w (drop (w * p) l)))
 
 module _ (o l : List ℕ) (w n p : ℕ) (e : p ≡ placeOf o (rows w n l)) where
-  pub place-within : p ≤ n
-  place-within = omega (arith, e, place-most o (rows w n l), rows-length w n l)
-
   place-row : p < n → getD (rows w n l) (placeOf o (rows w n l)) [] ≡ take w (drop (w * p) l)
   place-row k = ap (λ (i : ℕ). getD (rows w n l) i []) (sym e) ∙ rows-at w n p l k
 

@@ -1,18 +1,23 @@
 -- Laws of the place at which one more row is put in.
-use Prim.Native.Nat.{ℕ, suc, _+_, _-_, _*_, _≤_, _<_}
-use native.Mathlib.Numerals.{add-one}
-use native.Mathlib.Nat.{mul-zero, sub-zero}
+use Prim.Native.Nat.{ℕ, zero, suc, _+_, _*_, _≤_, _<_}
 use native.Mathlib.Omega.{arith}
 use mathlib.Core.Path.{_≡_, refl, sym, ap, _∙_}
 use mathlib.Core.Bool.{Bool, true, false}
 use mathlib.Core.List.{List, [], _∷_, _++_}
 use lib.ListN.{length, getD, take, drop, take-append-drop}
 use lib.Seq.{drop-cons, drop-length}
-use Rattle.lists.specs.Ascending.{less}
+use Rattle.lists.specs.Ascending.{less, AllAbove, Ascending}
+use Rattle.lists.proofs.AscendingLaws.{less-trans}
 use Rattle.sorted_rows.specs.Sorted.{insert, rows}
-use Rattle.sorted_rows.specs.Places.{placeOf, putAt}
+use Rattle.sorted_rows.specs.Places.{placeOf, putAt, PlacedAt}
 use Rattle.sorted_rows.proofs.SortedLaws.{insert-front, insert-there, insert-behind}
-use Rattle.sorted_rows.proofs.RowsLaws.{rows-next}
+use Rattle.sorted_rows.proofs.RowsLaws.{rows-length, rows-at}
+
+-- an entry of a list whose entries are all greater than q
+above-entry : (q : List ℕ) (l : List (List ℕ)) (i : ℕ) → AllAbove q l → i < length l → less q (getD l i []) ≡ true
+above-entry q [] i a k = absurd (omega arith)
+above-entry q (r ∷ l) zero a k = a .0
+above-entry q (r ∷ l) (suc i) a k = above-entry q l i (a .1) (omega arith)
 
 module _ (o : List ℕ) where
   place-here : (q : List ℕ) (l : List (List ℕ)) → less q o ≡ false → placeOf o (q ∷ l) ≡ 0
@@ -20,35 +25,6 @@ module _ (o : List ℕ) where
 
   place-later : (q : List ℕ) (l : List (List ℕ)) → less q o ≡ true → placeOf o (q ∷ l) ≡ suc (placeOf o l)
   place-later q l h = rw h refl
-
-  module _ (w n : ℕ) (l : List ℕ) where
-    -- the first i rows come before it
-    abbrev pub Passed : ℕ → Type 0
-    Passed i = (i ≤ n) × (placeOf o (rows w n l) ≡ i + placeOf o (rows w (n - i) (drop (w * i) l)))
-
-    pub passed-start : Passed 0
-    passed-start = (omega arith, rw (mul-zero w, sub-zero n) (omega arith))
-
-    -- row i does too
-    pub passed-more : (i : ℕ) → Passed i → i < n → less (take w (drop (w * i) l)) o ≡ true → Passed (i + 1)
-    passed-more i p h e =
-        let r : List (List ℕ) = rows w (n - suc i) (drop (w * suc i) l) in
-        let s : placeOf o (rows w (n - i) (drop (w * i) l)) ≡ suc (placeOf o r)
-        = ap (placeOf o) (rows-next w i n l h) ∙ place-later (take w (drop (w * i) l)) r e in
-        (omega arith, rw (add-one i) (omega (arith, p .1, s)))
-
-    -- row i doesn't: it is the place
-    pub passed-here : (i : ℕ) → Passed i → i < n → less (take w (drop (w * i) l)) o ≡ false → i ≡ placeOf o (rows w n l)
-    passed-here i p h e =
-        let r : List (List ℕ) = rows w (n - suc i) (drop (w * suc i) l) in
-        omega (arith, p .1, ap (placeOf o) (rows-next w i n l h) ∙ place-here (take w (drop (w * i) l)) r e)
-
-    -- all of them do
-    pub passed-end : (i : ℕ) → Passed i → n ≤ i → i ≡ placeOf o (rows w n l)
-    unfolding rows
-    passed-end i p h =
-        let e : n - i ≡ 0 = omega arith in
-        omega (arith, p .1, ap (λ (k : ℕ). placeOf o (rows w k (drop (w * i) l))) e)
 
   -- the place is within the list or behind it
   pub place-most : (l : List (List ℕ)) → placeOf o l ≤ length l
@@ -58,6 +34,62 @@ module _ (o : List ℕ) where
       go : (b : Bool) → less q o ≡ b → placeOf o l ≤ length l → placeOf o (q ∷ l) ≤ suc (length l)
       go true h m = omega (arith, place-later q l h)
       go false h m = omega (arith, place-here q l h)
+
+  -- entry i comes before it, and so do those before i: the place is behind
+  place-past : (l : List (List ℕ)) (i : ℕ) → Ascending l → i < length l → less (getD l i []) o ≡ true → i < placeOf o l
+  place-past [] i a k h = absurd (omega arith)
+  place-past (q ∷ l) zero a k h = omega (arith, place-later q l h)
+  place-past (q ∷ l) (suc i) a k h =
+      let before = less-trans q (getD l i []) o (above-entry q l i (a .0) (omega arith)) h in
+      omega (arith, place-later q l before, place-past l i (a .1) (omega arith) h)
+
+  -- entry i doesn't: the place isn't behind
+  place-upto : (l : List (List ℕ)) (i : ℕ) → i < length l → less (getD l i []) o ≡ false → placeOf o l ≤ i
+  place-upto [] i k h = absurd (omega arith)
+  place-upto (q ∷ l) zero k h = omega (arith, place-here q l h)
+  place-upto (q ∷ l) (suc i) k h = go (less q o) refl (place-upto l i (omega arith) h)
+    where
+      go : (b : Bool) → less q o ≡ b → placeOf o l ≤ i → placeOf o (q ∷ l) ≤ suc i
+      go true e m = omega (arith, place-later q l e)
+      go false e m = omega (arith, place-here q l e)
+
+  module _ (w n : ℕ) (l : List ℕ) where
+    -- the place is between low and high, if the rows ascend
+    pub record Between (low high : ℕ) : Type 0 where
+      pub within : (low ≤ high) × (high ≤ n)
+      pub found : Ascending (rows w n l) → (low ≤ placeOf o (rows w n l)) × (placeOf o (rows w n l) ≤ high)
+
+    pub halves-start : Between 0 n
+    halves-start = record {
+      within = (omega arith, omega arith);
+      found = λ a. (omega arith, omega (arith, place-most (rows w n l), rows-length w n l));
+    }
+
+    -- A row between is compared.
+    module _ (low high i : ℕ) (s : Between low high) (from : low ≤ i) (upto : i < high) where
+      inside : i < length (rows w n l)
+      inside = omega (arith, s .within, upto, rows-length w n l)
+
+      same : getD (rows w n l) i [] ≡ take w (drop (w * i) l)
+      same = rows-at w n i l (omega (arith, s .within, upto))
+
+      pub halves-behind : less (take w (drop (w * i) l)) o ≡ true → Between (i + 1) high
+      halves-behind h = record {
+        within = (omega arith, s .within .1);
+        found = λ a.
+            (omega (arith, place-past (rows w n l) i a inside (ap (λ (r : List ℕ). less r o) same ∙ h)), s .found a .1);
+      }
+
+      pub halves-before : less (take w (drop (w * i) l)) o ≡ false → Between low i
+      halves-before h = record {
+        within = (from, omega (arith, s .within, upto));
+        found = λ a. (s .found a .0, place-upto (rows w n l) i inside (ap (λ (r : List ℕ). less r o) same ∙ h));
+      }
+
+    -- none is left
+    pub halves-end : (low high : ℕ) → Between low high → high ≤ low → (low ≤ n) × PlacedAt o (rows w n l) low
+    halves-end low high s h =
+        (omega (arith, s .within), λ a. let f = s .found a in omega (arith, s .within, f .0, f .1))
 
   -- the entry at the place doesn't come before it
   place-not : (l : List (List ℕ)) → placeOf o l < length l → less (getD l (placeOf o l) []) o ≡ false

@@ -50,16 +50,6 @@ rows-drop w (suc p) (suc n) l h =
     let e : n - p ≡ suc n - suc p = omega arith in
     rows-drop w p n (drop w l) (omega arith) ∙ ap₂ (rows w) e (past w p l)
 
--- the row at i, and those behind it
-pub rows-next : (w i n : ℕ) (l : List ℕ) → i < n →
-    rows w (n - i) (drop (w * i) l) ≡ take w (drop (w * i) l) ∷ rows w (n - suc i) (drop (w * suc i) l)
-unfolding rows
-rows-next w i n l h =
-    let e : n - i ≡ suc (n - suc i) = omega arith in
-    ap (λ (k : ℕ). rows w k (drop (w * i) l)) e
-    ∙ ap (λ (m : List ℕ). take w (drop (w * i) l) ∷ rows w (n - suc i) m)
-    (drop-drop w (w * i) l ∙ ap (λ (k : ℕ). drop k l) (sym (mul-suc w i)))
-
 -- a change of one place behind them leaves them as they are
 pub rows-set : (w n : ℕ) (l : List ℕ) (i v : ℕ) → w * n ≤ i → rows w n (set l i v) ≡ rows w n l
 unfolding rows

@@ -11,7 +11,7 @@ use lib.ListN.{take}
 use lib.Seq.{take-take}
 use borrow.Author.Tests.{eqb-true, eqb-false, ltb-false}
 use Rattle.lists.specs.Lists.{_∈_, kept, keep}
-use Rattle.lists.specs.Ascending.{less, Ascending}
+use Rattle.lists.specs.Ascending.{less, AllAbove, Ascending}
 use Rattle.lists.proofs.MemberLaws.{keep-only, keep-each}
 use Rattle.lists.proofs.AscendingLaws.{less-head, less-tail, above-at, at-above, above-trans, ascending-keep, ascending-same}
 use Rattle.sorted_rows.specs.Sorted.{insert, sorted}
@@ -113,6 +113,17 @@ pub sorted-ascending : (l : List (List ℕ)) → Ascending (sorted l)
 unfolding sorted
 sorted-ascending [] = tt
 sorted-ascending (o ∷ l) = insert-ascending o (sorted l) (sorted-ascending l)
+
+-- the first k of a list that ascends do
+above-take : (p : List ℕ) (k : ℕ) (l : List (List ℕ)) → AllAbove p l → AllAbove p (take k l)
+above-take p zero l a = tt
+above-take p (suc k) [] a = tt
+above-take p (suc k) (q ∷ l) a = (a .0, above-take p k l (a .1))
+
+pub ascending-take : (k : ℕ) (l : List (List ℕ)) → Ascending l → Ascending (take k l)
+ascending-take zero l a = tt
+ascending-take (suc k) [] a = tt
+ascending-take (suc k) (q ∷ l) a = (above-take q k l (a .0), ascending-take k l (a .1))
 
 -- the order in which they come and how often doesn't matter
 pub sorted-same : (l m : List (List ℕ)) → ((x : List ℕ) → x ∈ l ↔ x ∈ m) → sorted l ≡ sorted m

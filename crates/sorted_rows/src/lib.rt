@@ -6,8 +6,8 @@ ghost use mathlib.Core.Path.{_≡_};
 ghost use lib.Dec.{ltb};
 ghost use lib.ListN.{length, take, drop};
 ghost use Rattle.lists.specs.Ascending.{less};
-ghost use Rattle.sorted_rows.specs.Sorted.{insert, rows};
-ghost use Rattle.sorted_rows.specs.Places.{placeOf, putAt};
+ghost use Rattle.sorted_rows.specs.Sorted.{rows};
+ghost use Rattle.sorted_rows.specs.Places.{putAt, PlacedAt, Puts};
 
 // The places of one row at most, the rows kept at most, and the places of these.
 pub const ROW: usize = 40;
@@ -75,22 +75,23 @@ fn shift(kept: &mut [u16], start: usize, end: usize, by: usize)
     }
 }
 
-// How many of the n rows come before the value, up to the first that doesn't.
+// How many of the n rows come before the value, if they ascend: looked for by halves.
 fn place(kept: &[u16], n: usize, width: usize, value: &[u16]) -> usize
     requires { ⌜ width * n ≤ length (now kept) ⌝ }
-    ensures { λ r. ⌜ r ≡ placeOf (now (value .entry)) (rows width n (now (kept .entry))) ⌝ }
+    ensures { λ r. ⌜ (r ≤ n) × PlacedAt (now (value .entry)) (rows width n (now (kept .entry))) r ⌝ }
 {
-    let mut passed: usize = 0;
-    let mut at: usize = 0;
-    while passed < n {
-        let end = at + width;
-        if !comes_before(&kept[at..end], value) {
-            return passed;
+    let mut low: usize = 0;
+    let mut high = n;
+    while low < high {
+        let middle = low + (high - low) / 2;
+        let start = width * middle;
+        if comes_before(&kept[start..start + width], value) {
+            low = middle + 1;
+            continue;
         }
-        at = end;
-        passed += 1;
+        high = middle;
     }
-    passed
+    low
 }
 
 // Whether there is a row `at` among the n, and it doesn't come after the value.
@@ -116,11 +117,12 @@ fn put(kept: &mut [u16], at: usize, last: usize, width: usize, value: &[u16])
     write(kept, start, value, width);
 }
 
-// Puts the first `width` values in among the n rows, unless they are one of these; a row that there is no room for is dropped.
+// Puts the first `width` values in among the n rows, which ascend, unless they are one of these; a row that there is no room for
+// is dropped.
 pub fn insert(kept: &mut [u16], n: usize, room: usize, width: usize, value: &[u16]) -> usize
     requires { ⌜ (n ≤ room) × (width * room ≤ length (now kept)) × (width ≤ length (now value)) ⌝ }
-    ensures { λ r. ⌜ rows width r (now (kept .exit)) ≡
-        take room (insert (take width (now (value .entry))) (rows width n (now (kept .entry)))) ⌝ }
+    ensures { λ r. ⌜ Puts room (take width (now (value .entry))) (rows width n (now (kept .entry)))
+        (rows width r (now (kept .exit))) ⌝ }
     ensures { λ r. ⌜ (r ≤ room) × (length (now (kept .exit)) ≡ length (now (kept .entry))) ⌝ }
 {
     let row = &value[..width];

@@ -1,7 +1,6 @@
 use Prim.Native.Nat.{_<_}
 use native.Mathlib.Omega.{arith}
 use mathlib.Core.Path.{refl}
-use lib.ListN.{take}
 use Rattle.table.specs.Events.{capacity}
 use Rattle.masks.proofs.ListedLaws.{bits-lowest, bits-less}
 use Rattle.outcome_values.proofs.ReaderLaws.{Written, read-start, read-more, read-end}
@@ -10,11 +9,10 @@ use Rattle.outcome_values.proofs.returned_values.Statement.{statement}
 use Rattle.outcome_values.proofs.returned_values.Tie as tie
 
 abbrev Inv-loop : tie.InvT-loop
-Inv-loop facts left order len readers values₀ rest₀ n₀ values rest n =
-    Written facts left (take len order) readers n rest values
+Inv-loop returned readers values₀ rest₀ n₀ values rest n = Written returned readers n rest values
 
 abbrev μ-loop : tie.MeasureT-loop
-μ-loop facts left order len readers values₀ rest₀ n₀ values rest n = rest
+μ-loop returned readers values₀ rest₀ n₀ values rest n = rest
 
 -- the lowest reader left is an event
 lowest : (c : tie.After-lowest-set Inv-loop μ-loop) → c .lowest-set .result < capacity
@@ -22,13 +20,10 @@ lowest c =
     bits-lowest capacity _ _ _ (omega arith) (c .before .before .loop .inv .fits) (c .lowest-set .ensures) refl .0
 
 loop-holds : tie.Need-loop-holds Inv-loop μ-loop
-loop-holds c = read-start _ _ _ _ (c .fits .readers .fits) _ (c .pre .1)
+loop-holds c = read-start _ _ (c .fits .readers .fits) _ (c .pre)
 
-cast-value-read : tie.Need-cast-value-read Inv-loop μ-loop
-cast-value-read c = omega (arith, lowest c)
-
-value-read-requires : tie.Need-value-read-requires Inv-loop μ-loop
-value-read-requires c κs = (c .before .before .before .pre .0, lowest c)
+element-copy-out-narrow : tie.Need-element-copy-out-narrow Inv-loop μ-loop
+element-copy-out-narrow c = lowest c
 
 one-requires : tie.Need-one-requires Inv-loop μ-loop
 one-requires c κs = lowest (c .before .before)
@@ -41,13 +36,13 @@ loop-less c =
 loop-again : tie.Need-loop-again Inv-loop μ-loop
 loop-again c =
     let k = c .before .before .before in
-    read-more _ _ _ _ _ _ _ _ _ (k .before .before .loop .inv) (omega arith) (k .lowest-set .ensures) (c .one .ensures)
-    (c .before .before .value-read .result .depth) _ _ (c .before .before .value-read .ensures .0) (c .before .narrow .ensures)
+    read-more _ _ _ _ _ _ _ (k .before .before .loop .inv) (omega arith) (k .lowest-set .ensures) (c .one .ensures) _
+    (c .before .narrow .ensures)
 
 returns : tie.Need-returns Inv-loop μ-loop
 returns c =
     let v = c .before .loop in
-    (read-end _ _ _ _ _ _ _ (v .inv) (c .loop-test .left), (omega (arith, v .inv .room), v .inv .long))
+    (read-end _ _ _ _ _ (v .inv) (c .loop-test .left), (omega (arith, v .inv .room), v .inv .long))
 
 pub returned-values-spec : {M : Type 1} → statement M
 returned-values-spec =
@@ -57,8 +52,9 @@ returned-values-spec =
     μ-loop
     loop-holds
     (λ c κs. search needs)
-    cast-value-read
-    value-read-requires
+    (λ c. search needs)
+    (λ c. search needs)
+    element-copy-out-narrow
     (λ c κs. search needs)
     (λ c. search needs)
     (λ c. search needs)

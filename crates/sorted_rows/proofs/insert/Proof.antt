@@ -5,10 +5,10 @@ use mathlib.Core.Bool.{false}
 use mathlib.Core.List.{List}
 use lib.ListN.{length, take}
 use Rattle.sorted_rows.specs.Sorted.{rows}
-use Rattle.sorted_rows.specs.Places.{placeOf}
+use Rattle.sorted_rows.specs.Places.{PlacedAt}
 use lib.Seq.{length-take-le}
 use Rattle.sorted_rows.proofs.RowsLaws.{rows-within}
-use Rattle.sorted_rows.proofs.InsertLaws.{stands, place-within, insert-full, insert-stands, insert-more, insert-drops}
+use Rattle.sorted_rows.proofs.InsertLaws.{stands, insert-full, insert-stands, insert-more, insert-drops}
 use borrow.Author.Needs.{needs}
 use Rattle.sorted_rows.proofs.insert.Statement.{statement}
 use Rattle.sorted_rows.proofs.insert.Tie as tie
@@ -26,7 +26,7 @@ place-requires c κs = room (c .before .before .before .before)
 returns : tie.Need-returns
 returns c =
     let h = c .before .before .before .before .before .before .pre .0 in
-    (insert-full _ _ _ _ _ (c .before .place .ensures) _ h (c .if1 .taken), (h, refl))
+    (λ u. insert-full _ _ _ _ _ (c .before .place .ensures .1 u) _ h (c .if1 .taken), (h, refl))
 
 stands-at-requires : tie.Need-stands-at-requires
 stands-at-requires c κs = room (c .before .before .before .before .before .before .before)
@@ -34,8 +34,8 @@ stands-at-requires c κs = room (c .before .before .before .before .before .befo
 returns-2 : tie.Need-returns-2
 returns-2 c =
     let h = c .before .before .before .before .before .before .before .before .before .pre .0 in
-    let found = c .before .before .before .before .place .ensures in
-    (insert-stands _ _ _ _ _ found _ h (sym (c .before .stands-at .ensures) ∙ c .if2 .taken), (h, refl))
+    let found = c .before .before .before .before .place .ensures .1 in
+    (λ u. insert-stands _ _ _ _ _ (found u) _ h (sym (c .before .stands-at .ensures) ∙ c .if2 .taken), (h, refl))
 
 module _ (c : tie.Else2) where
   abbrev start : tie.Start
@@ -47,13 +47,13 @@ module _ (c : tie.Else2) where
   abbrev at : ℕ
   at = c .before .before .before .before .place .result
 
-  abbrev found : at ≡ placeOf value (rows (start .args .width) (start .args .n) (start .args .kept .now))
-  found = c .before .before .before .before .place .ensures
+  abbrev found : PlacedAt value (rows (start .args .width) (start .args .n) (start .args .kept .now)) at
+  found = c .before .before .before .before .place .ensures .1
 
   -- its place is among the rows or behind them, and there is room for it
   placed : (at ≤ start .args .n) × (at < start .args .room)
   placed =
-      let within = place-within value (start .args .kept .now) (start .args .width) (start .args .n) at found in
+      let within = c .before .before .before .before .place .ensures .0 in
       (within, omega (arith, within, start .pre .0, c .before .before .before .if1 .left))
 
   -- it isn't a row
@@ -69,8 +69,10 @@ put-requires c κs =
 returns-3 : tie.Need-returns-3
 returns-3 c =
     let e = c .before .before .before .before .before in
-    let more = insert-more _ _ _ _ _ (found e) _ (start e .pre .0) (absent e) (c .before .before .before .before .if3 .taken) in
-    (c .before .before .put .ensures ∙ more, (omega arith, search needs))
+    let room = c .before .before .before .before .if3 .taken in (
+      λ u. c .before .before .put .ensures ∙ insert-more _ _ _ _ _ (found e u) _ (start e .pre .0) (absent e) room,
+      (omega arith, search needs),
+    )
 
 sub-put : tie.Need-sub-put
 sub-put c = omega (arith, placed (c .before .before), start (c .before .before) .pre .0)
@@ -87,9 +89,9 @@ returns-4 c =
     let e = c .before .before .before .before .before in
     let s = start e in
     let n : s .args .n ≡ s .args .n - 1 + 1 = omega (arith, placed e, s .pre .0) in
-    let full = c .before .before .before .before .if3 .left in
-    let drops = insert-drops _ _ _ _ _ (found e) _ (s .pre .0) (absent e) full (placed e .1) in (
-      ap (λ (k : ℕ). rows (s .args .width) k (c .before .before .put2 .last .0)) n ∙ c .before .before .put2 .ensures ∙ drops,
+    let full = c .before .before .before .before .if3 .left in (
+      λ u. ap (λ (k : ℕ). rows (s .args .width) k (c .before .before .put2 .last .0)) n ∙ c .before .before .put2 .ensures
+          ∙ insert-drops _ _ _ _ _ (found e u) _ (s .pre .0) (absent e) full (placed e .1),
       (s .pre .0, search needs),
     )
 
