@@ -27,9 +27,9 @@
  *   4  atomicity           LR                  writer                      -             -
  *   5  value read          reader              -                           -             -
  *   6  final value         location            -                           -             -
- *   7  found               length written      -                           -             visited
+ *   7  found               length written      -                           -             visited, 0 of ct_decide
  *                          outcomes: values of each                                      ct_outcomes: how many
- *   8  none left           -                   -                           -             visited, 0 of outcomes
+ *   8  none left           -                   -                           -             visited, 0 of outcomes and ct_decide
  *   9  spent               length written      -                           -             visited, 0 of outcomes
  *   10 step accepted       event               entry of a returned list    -             -
  *   11 advised             -                   -                           -             set of fences
@@ -242,6 +242,29 @@ uint64_t ct_search(const uint8_t *test, size_t test_len, const uint8_t *start, s
  */
 uint64_t ct_search_pruned(const uint8_t *test, size_t test_len, const uint8_t *start, size_t start_len, uint8_t *out,
                           size_t out_len, uint64_t allowance);
+
+/*
+ * Decides a test: the least witness greater than `start`, or that there is none. It takes no allowance, visits no prefixes one by
+ * one, and is never spent; with the empty start, none left means that the outcome is forbidden. `start` is any list of bytes, a
+ * witness or not: orders are compared with it entry by entry, and a list comes before its extensions. The order that a call wrote
+ * is the start of the next one. `out` has room for each memory event (CT_EVENTS is enough for any test); bytes past what is
+ * written stay.
+ *
+ * Case 7, found: the order is written, and byte 1 is its length. Case 8, none left: nothing is written. Case 1: refusal 1 to 11 or
+ * 21, then 16.
+ *
+ * From the empty start until none are left, it gives the witnesses of ct_search in their order. Most tests take microseconds; there
+ * are tests of some thirty events that take seconds.
+ */
+uint64_t ct_decide(const uint8_t *test, size_t test_len, const uint8_t *start, size_t start_len, uint8_t *out,
+                   size_t out_len);
+
+/*
+ * The same with a lent memo of any number of words, in the place of the 4,096 that ct_decide has: on tests that take long, more words
+ * save time. The answer is the same whatever is in it; what the call leaves in it is of no account. A refused call doesn't touch it.
+ */
+uint64_t ct_decide_with(const uint8_t *test, size_t test_len, const uint8_t *start, size_t start_len, uint8_t *out,
+                        size_t out_len, uint64_t *memo, size_t memo_len);
 
 /*
  * The next outcome of a test. An outcome is what some order that the rules allow gives: the value of each event that

@@ -1,6 +1,6 @@
 //! One call, and what may come of it.
 
-use cogthunder::{Advice, Answer, Axiom, Listing, Refusal, Rules, Table, Taken};
+use cogthunder::{Advice, Answer, Axiom, Decision, Listing, Refusal, Rules, Table, Taken};
 use oracle::outcome::Asked;
 use oracle::raw::RawTable;
 use oracle::search::Engine;
@@ -84,6 +84,16 @@ pub enum Entry {
     Advise {
         allowance: u64,
     },
+    /// The least witness above a list.
+    Decide {
+        start: Vec<u8>,
+        out: Vec<u8>,
+    },
+    /// All witnesses above a list, by the iterator over decisions, which is resumed after some of them.
+    AllDecided {
+        start: Vec<u8>,
+        steps: usize,
+    },
 }
 
 /// What is asked of a suite.
@@ -133,6 +143,8 @@ pub enum Reply {
     Listed(Listing),
     AllOutcomes(Vec<Vec<u16>>),
     Advice(Advice),
+    Decided(Decision),
+    Orders(Vec<Vec<u8>>),
 }
 
 /// The orders of all complete runs of the machine, with their returned lists, and all witnesses; both ascending.
@@ -218,6 +230,8 @@ impl Entry {
             | Entry::Returns { order: list, .. }
             | Entry::Search { start: list, .. }
             | Entry::Witnesses { start: list, .. }
+            | Entry::Decide { start: list, .. }
+            | Entry::AllDecided { start: list, .. }
             | Entry::Step { steps: list, .. } => (Some(list.into()), None),
             Entry::Outcomes { previous, .. } => (Some(value_bytes(previous).into()), None),
             Entry::AllOutcomes { .. } => (None, None),
@@ -237,6 +251,7 @@ impl Entry {
     pub fn out(&self) -> Lent<'_> {
         match self {
             Entry::Write { out, .. } | Entry::Returns { out, .. } | Entry::Search { out, .. } => Some(out.into()),
+            Entry::Decide { out, .. } => Some(out.into()),
             Entry::Outcomes { out, .. } => Some(value_bytes(out).into()),
             _ => None,
         }
@@ -264,6 +279,8 @@ impl Entry {
             Entry::Step { .. } => "step",
             Entry::Runs => "all runs",
             Entry::Advise { .. } => "advise",
+            Entry::Decide { .. } => "decide",
+            Entry::AllDecided { .. } => "all decided",
             Entry::Outcomes { asked: Asked::One, .. } => "outcome",
             Entry::Outcomes { asked: Asked::Some, .. } => "outcomes",
             Entry::AllOutcomes { .. } => "all outcomes",

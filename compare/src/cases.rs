@@ -3,6 +3,7 @@
 use crate::advice::{advice, large_advice};
 use crate::call::{Call, Entry, OfSuite, Outcome, Reply};
 use crate::comparison::{Comparison, Difference};
+use crate::decisions::{all_decided, decision_on_bytes, decisions};
 use crate::outcomes::{all_outcomes, any_listing, outcome_calls};
 use crate::runs::{all_runs, any_step, steps};
 use crate::texts::*;
@@ -28,7 +29,7 @@ use oracle::walks::Given;
 pub type Round = fn(&mut Prng, &mut Comparison) -> Result<(), Box<Difference>>;
 
 /// As often as they shall come.
-const ROUNDS: [Round; 53] = [
+const ROUNDS: [Round; 57] = [
     candidates,
     candidates,
     candidates,
@@ -56,6 +57,10 @@ const ROUNDS: [Round; 53] = [
     advice,
     advice,
     large_advice,
+    decisions,
+    decisions,
+    decisions,
+    all_decided,
     damaged_table,
     damaged_table,
     damaged_table,
@@ -425,6 +430,7 @@ fn every_entry(prng: &mut Prng, calls: &mut Calls, table: &Table) -> Result<(), 
     calls.call(Entry::Step { steps: start, step })?;
     calls.call(Entry::Step { steps: Vec::new(), step })?;
     calls.call(Entry::Advise { allowance })?;
+    decision_on_bytes(prng, calls, table)?;
     any_listing(prng, calls, table, allowance)
 }
 

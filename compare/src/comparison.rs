@@ -53,7 +53,7 @@ mod tests {
     use crate::lent::Room;
     use crate::library::Library;
     use crate::reference::Reference;
-    use cogthunder::{Advice, Answer, Axiom, Listing, Rules, Taken, INITIALLY, NOTHING};
+    use cogthunder::{Advice, Answer, Axiom, Decision, Listing, Rules, Taken, INITIALLY, NOTHING};
     use oracle::encode::{encode, seal};
     use oracle::generate::prng::Prng;
     use oracle::layout::{BLOCK_LENGTH, CHECK_AT, EVENTS_AT, LONGEST_TEST};
@@ -65,7 +65,7 @@ mod tests {
     const CALLS: u64 = 20_000;
 
     /// Of the calls: with it each fault is shown by a test as small as it can be.
-    const SEED: u64 = 5;
+    const SEED: u64 = 45;
 
     /// The independent program with a fault.
     struct Faulty(fn(&Call, &mut Outcome));
@@ -217,6 +217,45 @@ mod tests {
         });
         assert!(matches!(&found.reference.reply, Reply::Advice(Advice::Advised(fences)) if !fences.is_empty()));
         assert!(found.call.bytes[EVENTS_AT] <= 6);
+    }
+
+    #[test]
+    fn a_decision_that_misses_a_witness_is_shown_by_one_event() {
+        let found = difference(|call, outcome| {
+            if let (Entry::Decide { out, .. }, Reply::Decided(Decision::Found { .. })) = (&call.entry, &outcome.reply) {
+                *outcome = Outcome { reply: Reply::Decided(Decision::NoneLeft), out: out.clone(), altered: Vec::new() };
+            }
+        });
+        assert_eq!(found.call.bytes[EVENTS_AT], 1);
+        assert_eq!(found.reference.reply, Reply::Decided(Decision::Found { len: 1 }));
+    }
+
+    #[test]
+    fn a_decision_that_gives_a_witness_but_the_least_is_shown_by_two_events() {
+        let found = difference(|call, outcome| {
+            if let (Entry::Decide { out, .. }, Reply::Decided(Decision::Found { len })) = (&call.entry, &outcome.reply)
+            {
+                let entry = Entry::Decide { start: outcome.out[..*len].to_vec(), out: out.clone() };
+                let next = Reference::default().outcome(&Call { entry, ..call.clone() });
+                if next.reply == outcome.reply {
+                    *outcome = next;
+                }
+            }
+        });
+        assert_eq!(found.call.bytes[EVENTS_AT], 2);
+        assert_eq!(found.reference.out[..2], [0, 1]);
+        assert_eq!(found.library.out[..2], [1, 0]);
+    }
+
+    #[test]
+    fn a_last_witness_that_the_iterator_misses_is_shown_by_one_event() {
+        let found = difference(|_, outcome| {
+            if let Reply::Orders(orders) = &mut outcome.reply {
+                orders.pop();
+            }
+        });
+        assert_eq!(found.call.bytes[EVENTS_AT], 1);
+        assert_eq!(found.reference.reply, Reply::Orders(vec![vec![0]]));
     }
 
     #[test]

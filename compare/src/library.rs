@@ -1,6 +1,7 @@
 //! The proved library's outcome of a call, through its Rust package.
 
 use crate::call::{Bench, Call, Entry, OfSuite, Outcome, Reply, Walked};
+use crate::decisions;
 use crate::lent::Room;
 use crate::outcomes;
 use crate::reference::same_fields;
@@ -78,6 +79,11 @@ impl Library {
             }
             Entry::Advise { allowance } => {
                 cogthunder::advise(bytes, *allowance).map_or_else(Reply::from, Reply::Advice)
+            }
+            Entry::Decide { start, out } => cogthunder::decide(bytes, self.first.lend(start), self.second.lend(out))
+                .map_or_else(Reply::from, Reply::Decided),
+            Entry::AllDecided { start, steps } => {
+                decisions::library(bytes, self.first.lend(start), *steps).map_or_else(Reply::from, Reply::Orders)
             }
         }
     }

@@ -1,5 +1,5 @@
-//! The public litmus tests: the stated verdict of each by both of the library's engines and by the list of its outcomes, a witness
-//! of each allowed outcome by its verdict.
+//! The public litmus tests: the stated verdict of each by both of the library's engines, by its decision and by the list of its
+//! outcomes, a witness of each allowed outcome by its verdict.
 
 use cogthunder::{returns, verdict, Outcomes, Table, Unlisted, Verdict, Witnesses, EVENTS, LARGEST_ALLOWANCE};
 use std::io::{stdin, BufRead};
@@ -43,8 +43,9 @@ pub fn run() -> ExitCode {
         }
     }
     println!(
-        "litmus: {allowed} allowed, each with a first witness of both engines that the verdict allows, and among its test's \
-         outcomes; {forbidden} forbidden, each walked until none was left, and not among them; {wrong} not as stated"
+        "litmus: {allowed} allowed, each with a first witness of both engines and of its decision that the verdict allows, and \
+         among its test's outcomes; {forbidden} forbidden, each decided, walked until none was left, and not among them; {wrong} \
+         not as stated"
     );
     if wrong == 0 && allowed + forbidden > 0 {
         ExitCode::SUCCESS
@@ -57,14 +58,16 @@ pub fn run() -> ExitCode {
 enum Outcome {
     Allowed,
     Forbidden,
-    /// The engines have different first witnesses, the verdict doesn't allow theirs, or the list of outcomes says otherwise.
+    /// The engines and the decision have different first witnesses, the verdict doesn't allow theirs, or the list of outcomes says
+    /// otherwise.
     Contradicted,
 }
 
 fn outcome(block: &[u8]) -> Result<Outcome, Unlisted> {
     let first = Witnesses::of(block)?.next();
     let is_listed = Outcomes::of(block, LARGEST_ALLOWANCE)?.any(|outcome| is_stated(block, &outcome));
-    if first != Witnesses::pruned(block)?.next() || first.is_some() != is_listed {
+    let others = [Witnesses::pruned(block)?, Witnesses::decided(block)?].map(|mut walk| walk.next());
+    if others.iter().any(|other| *other != first) || first.is_some() != is_listed {
         return Ok(Outcome::Contradicted);
     }
     let Some(order) = first else {

@@ -4,6 +4,7 @@ mod advice;
 mod call;
 mod cases;
 mod comparison;
+mod decisions;
 mod ladders;
 mod lent;
 mod library;
@@ -30,6 +31,7 @@ use std::time::{Duration, Instant};
 const USAGE: &str = "usage: compare [--calls N] [--seconds S] [--seed X] [--guard-pages]
        compare litmus, with the lines of `scripts/litmus --blocks` on standard input
        compare stronger, with the same lines, which holds the witnesses of tests to be witnesses of weaker ones
+       compare decisions, which holds decisions on tables of any size to the verdict and to the second engine
        compare texts, which reads a dozen texts with every byte changed to some twenty others, and cut at each length
 
 Makes N calls (100000), or calls for S seconds, drawn by the seed X (1). With --guard-pages each slice that is lent lies
@@ -65,6 +67,7 @@ fn main() -> ExitCode {
         Some("litmus") => return litmus::run(),
         Some("texts") => return run_texts(),
         Some("stronger") => return stronger::run(),
+        Some("decisions") => return decisions::run(),
         _ => {}
     }
     match options(std::env::args().skip(1)) {

@@ -1,10 +1,12 @@
 //! The independent program's outcome of a call.
 
 use crate::call::{Bench, Call, Entry, OfSuite, Outcome, Reply, Walked};
+use crate::decisions;
 use crate::library::place_in;
 use crate::outcomes;
 use crate::runs;
 use cogthunder::{Advice, Answer, Axiom, Event, Rules, Table, Taken};
+use oracle::decision::Decider;
 use oracle::generate::orders::bytes;
 use oracle::outcome::{Arguments, Lister};
 use oracle::raw::RawTable;
@@ -16,22 +18,24 @@ use oracle::walks::Given;
 /// "Block number not in the suite".
 const NOT_IN_SUITE: u8 = 18;
 
-/// It keeps the outcomes of the test that it listed last.
+/// It keeps the outcomes of the test that it listed last, and the witnesses of the one that it decided last.
 #[derive(Default)]
 pub struct Reference {
     lister: Lister,
+    decider: Decider,
 }
 
 impl Bench for Reference {
     fn outcome(&mut self, call: &Call) -> Outcome {
         let mut out = call.entry.out().unwrap_or_default().into_owned();
-        let reply = reply(&mut self.lister, call, &mut out);
+        let reply = reply(self, call, &mut out);
         Outcome { reply, out, altered: Vec::new() }
     }
 }
 
-fn reply(lister: &mut Lister, call: &Call, buffer: &mut [u8]) -> Reply {
+fn reply(reference: &mut Reference, call: &Call, buffer: &mut [u8]) -> Reply {
     let bytes = &call.bytes;
+    let Reference { lister, decider } = reference;
     match &call.entry {
         Entry::Read => oracle::table::read(bytes).map_or_else(Reply::from, |table| same_table(&table).into()),
         Entry::ReadText => read_text(bytes).map_or_else(Reply::from, |test| same_table(&test.table).into()),
@@ -66,6 +70,10 @@ fn reply(lister: &mut Lister, call: &Call, buffer: &mut [u8]) -> Reply {
         }
         Entry::Advise { allowance } => oracle::advice::advise(bytes, *allowance)
             .map_or_else(Reply::from, |advice| Reply::Advice(same_advice(&advice))),
+        Entry::Decide { start, .. } => {
+            decisions::decided(decider, bytes, start, buffer).map_or_else(Reply::from, Reply::Decided)
+        }
+        Entry::AllDecided { start, .. } => decisions::reference(bytes, start).map_or_else(Reply::from, Reply::Orders),
     }
 }
 

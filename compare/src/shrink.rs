@@ -120,6 +120,8 @@ fn without_event(edition: Edition, call: &Call, k: usize) -> Call {
         }
         entry @ (Entry::Write { .. } | Entry::Suite(_) | Entry::BothEngines { .. } | Entry::Runs) => entry,
         entry @ Entry::Advise { .. } => entry,
+        Entry::Decide { start, out } => Entry::Decide { start: list(&start), out },
+        Entry::AllDecided { start, steps } => Entry::AllDecided { start: list(&start), steps },
     };
     Call { bytes, entry }
 }
@@ -244,6 +246,15 @@ fn smaller_entries(entry: &Entry) -> Vec<Entry> {
         }
         Entry::Witnesses { given, start, allowance, steps } => {
             entries.extend(smaller_walks(*given, start, *allowance, *steps))
+        }
+        Entry::Decide { start, out } => {
+            entries.extend(shorter(start).map(|start| Entry::Decide { start, out: out.clone() }));
+            entries.extend(shorter(out).map(|out| Entry::Decide { start: start.clone(), out }));
+        }
+        Entry::AllDecided { start, steps } => {
+            entries.extend(shorter(start).map(|start| Entry::AllDecided { start, steps: *steps }));
+            let fewer = smaller_numbers(*steps as u64);
+            entries.extend(fewer.map(|steps| Entry::AllDecided { start: start.clone(), steps: steps as usize }));
         }
         Entry::Outcomes { asked, previous, out, allowance } => {
             entries.extend(smaller_listings(*asked, previous, out, *allowance))

@@ -1,7 +1,7 @@
 //! How many calls were made, and what they gave.
 
 use crate::call::{Call, Entry, Outcome, Reply};
-use cogthunder::{Advice, Answer, Axiom, Listing, Rules, Taken, INITIALLY, NOTHING};
+use cogthunder::{Advice, Answer, Axiom, Decision, Listing, Rules, Taken, INITIALLY, NOTHING};
 use oracle::layout::LONGEST_TEST;
 use oracle::search::Engine;
 use oracle::walks::Given;
@@ -29,6 +29,8 @@ const STEPS: [&str; 3] = ["a store or fence", "a read of an initial value", "a r
 
 const ADVICE: [&str; 5] = ["no fence", "some fences", "undecided without", "undecided with some", "no help"];
 
+const DECISIONS: [&str; 2] = ["found", "none left"];
+
 #[derive(Default)]
 pub struct Tally {
     pub calls: u64,
@@ -49,6 +51,9 @@ pub struct Tally {
     listings: BTreeMap<&'static str, u64>,
     all_outcomes: u64,
     advice: BTreeMap<&'static str, u64>,
+    /// Decisions by what they gave; and orders of those that gave all of them.
+    decisions: BTreeMap<&'static str, u64>,
+    all_decided: u64,
     written: u64,
     not_written: BTreeMap<u8, u64>,
 }
@@ -101,6 +106,13 @@ fn advice_name(advice: &Advice) -> &'static str {
     }]
 }
 
+fn decision_name(decision: &Decision) -> &'static str {
+    DECISIONS[match decision {
+        Decision::Found { .. } => 0,
+        Decision::NoneLeft => 1,
+    }]
+}
+
 impl Tally {
     fn count_rules(&mut self, rules: Rules) {
         for rule in rules.iter() {
@@ -132,6 +144,8 @@ impl Tally {
             Reply::Listed(listing) => *self.listings.entry(listing_name(listing)).or_default() += 1,
             Reply::AllOutcomes(outcomes) => self.all_outcomes += outcomes.len() as u64,
             Reply::Advice(advice) => *self.advice.entry(advice_name(advice)).or_default() += 1,
+            Reply::Decided(decision) => *self.decisions.entry(decision_name(decision)).or_default() += 1,
+            Reply::Orders(orders) => self.all_decided += orders.len() as u64,
             Reply::Good if call.entry.name() == "verdict" => *self.verdicts.entry(VERDICTS[0]).or_default() += 1,
             Reply::Searched(answer) => *self.searches.entry(search_name(&call.entry, answer)).or_default() += 1,
             Reply::Table(_) if call.entry == Entry::ReadText => self.good_texts += 1,
@@ -161,6 +175,8 @@ impl Tally {
         let listings = listings.map(|name| format!("outcomes: {name}"));
         let advice =
             ADVICE.iter().filter(|&name| !self.advice.contains_key(name)).map(|name| format!("advice: {name}"));
+        let decisions = DECISIONS.iter().filter(|&name| !self.decisions.contains_key(name));
+        let decisions = decisions.map(|name| format!("decision: {name}"));
         let not_written = TABLE_REFUSALS.iter().filter(|&n| !self.not_written.contains_key(n));
         let not_written = not_written.map(|n| format!("refusal {n} of a table"));
         let written = (self.written == 0).then(|| "a table that is written".to_string());
@@ -175,6 +191,7 @@ impl Tally {
             .chain(steps)
             .chain(listings)
             .chain(advice)
+            .chain(decisions)
             .chain(good)
             .collect()
     }
@@ -196,6 +213,7 @@ impl fmt::Display for Tally {
         writeln!(f, "  steps    {}; orders of all runs: {}", listed(&self.taken), self.orders_of_runs)?;
         writeln!(f, "  outcomes {}; all of some tests: {}", listed(&self.listings), self.all_outcomes)?;
         writeln!(f, "  advice   {}", listed(&self.advice))?;
+        writeln!(f, "  decided  {}; all of some tests: {}", listed(&self.decisions), self.all_decided)?;
         write!(f, "  tables   written: {}, refused by {}", self.written, listed(&self.not_written))
     }
 }

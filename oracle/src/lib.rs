@@ -5,6 +5,8 @@ pub mod advice_calls;
 pub mod candidate;
 pub mod candidates;
 pub mod condition;
+pub mod decide_calls;
+pub mod decision;
 pub mod encode;
 pub mod following;
 pub mod generate;

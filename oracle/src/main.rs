@@ -1,8 +1,8 @@
 //! The reference program of the RVWMO bench. Its commands are listed in the README.
 
 use oracle::{
-    advice_calls, candidates, generate, outcome_calls, readings, runs, stream, suite, tests, texts,
-    walks, writes,
+    advice_calls, candidates, decide_calls, generate, outcome_calls, readings, runs, stream, suite,
+    tests, texts, walks, writes,
 };
 use std::io::{self, Read, Write};
 use std::process::ExitCode;
@@ -10,7 +10,8 @@ use std::process::ExitCode;
 const USAGE: &str = "usage: oracle COMMAND
 where COMMAND is one of make-readings, readings, make-candidates, list-candidates, candidates,
 make-walks, walks, make-writes, writes, make-tests, tests, make-texts, texts, make-runs, runs,
-make-outcome_calls, outcome_calls, make-advice_calls, advice_calls, suite";
+make-outcome_calls, outcome_calls, make-advice_calls, advice_calls, make-decide_calls,
+decide_calls, suite";
 
 fn main() -> ExitCode {
     let command = std::env::args().nth(1).unwrap_or_default();
@@ -44,6 +45,8 @@ fn run(command: &str) -> Result<(), String> {
         "outcome_calls" => answer(outcome_calls::print_outcome_calls),
         "make-advice_calls" => print(&generate::advice_calls::make_advice_calls()),
         "advice_calls" => answer(advice_calls::print_advice_calls),
+        "make-decide_calls" => print(&generate::decide_calls::make_decide_calls()),
+        "decide_calls" => answer(decide_calls::print_decide_calls),
         "suite" => print(suite::print_suite(&standard_input()?).as_bytes()),
         _ => Err(USAGE.to_string()),
     }

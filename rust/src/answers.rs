@@ -167,6 +167,27 @@ impl fmt::Display for Answer {
     }
 }
 
+/// What a decision finds.
+#[derive(Clone, Copy, PartialEq, Eq, Hash, Debug)]
+pub enum Decision {
+    /// The least witness above the start; its order is written.
+    Found {
+        /// The number of bytes written: the length of the order.
+        len: usize,
+    },
+    /// No witness is above the start; nothing is written.
+    NoneLeft,
+}
+
+impl fmt::Display for Decision {
+    fn fmt(&self, f: &mut fmt::Formatter) -> fmt::Result {
+        match self {
+            Decision::Found { .. } => write!(f, "a witness"),
+            Decision::NoneLeft => write!(f, "no witness left"),
+        }
+    }
+}
+
 /// What a call for outcomes gives.
 #[derive(Clone, Copy, PartialEq, Eq, Hash, Debug)]
 pub enum Listing {
@@ -278,6 +299,8 @@ mod tests {
         );
         assert_eq!(Verdict::Allowed.to_string(), "allowed");
         assert_eq!(Answer::NoneLeft { visited: 18 }.to_string(), "no witness left, 18 prefixes visited");
+        assert_eq!(Decision::Found { len: 4 }.to_string(), "a witness");
+        assert_eq!(Decision::NoneLeft.to_string(), "no witness left");
         assert_eq!(Listing::Listed { outcomes: 1, values: 4 }.to_string(), "an outcome of 4 values");
         assert_eq!(Listing::Listed { outcomes: 3, values: 4 }.to_string(), "3 outcomes of 4 values");
         assert_eq!(Taken { event: 3, entry: NOTHING }.to_string(), "event 3");

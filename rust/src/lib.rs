@@ -29,6 +29,9 @@
 //! # Ok::<(), cogthunder::Refusal>(())
 //! ```
 //!
+//! [`decide`] and [`Witnesses::decided`] give the same orders without visiting prefixes one by one: never undecided, and quick for
+//! tests with many of them.
+//!
 //! A test may also be a text of up to 2,048 bytes, which asks for a condition instead of stated values; [`read_text`] says how
 //! it is written. Its model is RVWMO. [`search_text`] and [`Witnesses::of_text`] take it, and all other functions take blocks only:
 //!
@@ -66,10 +69,10 @@ mod suite;
 mod table;
 mod witnesses;
 
-pub use answers::{Advice, Answer, Axiom, Listing, Refusal, Taken, Verdict};
+pub use answers::{Advice, Answer, Axiom, Decision, Listing, Refusal, Taken, Verdict};
 pub use library::{
-    advise, blocks, next_test, outcome, outcomes, part, read, read_text, returns, rules, search, search_pruned,
-    search_text, step, test_length, verdict, write,
+    advise, blocks, decide, decide_with, next_test, outcome, outcomes, part, read, read_text, returns, rules, search,
+    search_pruned, search_text, step, test_length, verdict, write,
 };
 pub use operation::Operation;
 pub use outcomes::{Outcomes, Unlisted};

@@ -1,6 +1,6 @@
 //! The proved functions, each answer of which is one word.
 
-use crate::answers::{Advice, Answer, Axiom, Listing, Refusal, Taken, Verdict};
+use crate::answers::{Advice, Answer, Axiom, Decision, Listing, Refusal, Taken, Verdict};
 use crate::rules::Rules;
 use crate::table::{Event, Table};
 
@@ -49,6 +49,25 @@ extern "C" {
         out: *mut u8,
         out_len: usize,
         allowance: u64,
+    ) -> u64;
+
+    fn ct_decide(
+        test: *const u8,
+        test_len: usize,
+        start: *const u8,
+        start_len: usize,
+        out: *mut u8,
+        out_len: usize,
+    ) -> u64;
+    fn ct_decide_with(
+        test: *const u8,
+        test_len: usize,
+        start: *const u8,
+        start_len: usize,
+        out: *mut u8,
+        out_len: usize,
+        memo: *mut u64,
+        memo_len: usize,
     ) -> u64;
 
     fn ct_read_text(text: *const u8, text_len: usize) -> u64;
@@ -332,6 +351,73 @@ pub fn search_pruned(test: &[u8], start: &[u8], out: &mut [u8], allowance: u64) 
         ct_search_pruned(test.as_ptr(), test.len(), start.as_ptr(), start.len(), out.as_mut_ptr(), out.len(), allowance)
     };
     searched(word)
+}
+
+/// Decides a test: writes the least witness greater than `start` to the front of `out`, or says that none is left. There is no
+/// allowance, and it is never undecided. With the empty start, none left means that the outcome is forbidden.
+///
+/// `start` is any list of bytes; orders are compared with it entry by entry, and a list comes before its extensions. The order
+/// that a call wrote is the start of the next one. `out` has room for each memory event ([`EVENTS`](crate::EVENTS) is enough);
+/// bytes past the order stay. It is refused by 1 to 11 and 21, then by 16 if `out` is too short.
+///
+/// The witness is the one that [`search`] finds from the empty start, in less time where a test has many prefixes: what can
+/// still follow is told from the events that are placed and the values in memory. Most tests take microseconds; there are tests
+/// of some thirty events that take seconds.
+///
+/// [`Witnesses::decided`](crate::Witnesses::decided) makes such calls one after the other.
+///
+/// ```
+/// use cogthunder::{decide, Decision, EVENTS};
+///
+/// let block = include_bytes!(concat!(env!("CARGO_MANIFEST_DIR"), "/../samples/C1.block"));
+/// let mut out = [0; EVENTS];
+/// assert_eq!(decide(block, &[], &mut out)?, Decision::Found { len: 4 });
+/// assert_eq!(out[..4], [1, 2, 3, 0]);
+/// assert_eq!(decide(block, &[1, 2, 3, 0], &mut out)?, Decision::Found { len: 4 });
+/// assert_eq!(out[..4], [1, 3, 0, 2]);
+/// // No order begins with 2, so this is the next that begins with 3.
+/// assert_eq!(decide(block, &[2, 255], &mut out)?, Decision::Found { len: 4 });
+/// assert_eq!(out[..4], [3, 0, 1, 2]);
+/// assert_eq!(decide(block, &[3, 1, 2, 0], &mut out)?, Decision::NoneLeft);
+///
+/// // With fences it is forbidden.
+/// let block = include_bytes!(concat!(env!("CARGO_MANIFEST_DIR"), "/../samples/C2.block"));
+/// assert_eq!(decide(block, &[], &mut out)?, Decision::NoneLeft);
+/// # Ok::<(), cogthunder::Refusal>(())
+/// ```
+pub fn decide(test: &[u8], start: &[u8], out: &mut [u8]) -> Result<Decision, Refusal> {
+    decision(unsafe { ct_decide(test.as_ptr(), test.len(), start.as_ptr(), start.len(), out.as_mut_ptr(), out.len()) })
+}
+
+/// The same with a lent memo of any number of words, in the place of the 4,096 that [`decide`] has: on tests that take long, more
+/// words save time. The answer is the same whatever is in it, and what is left in it is of no account.
+///
+/// ```
+/// use cogthunder::{decide, decide_with};
+///
+/// let block = include_bytes!(concat!(env!("CARGO_MANIFEST_DIR"), "/../samples/C3.block"));
+/// let (mut out, mut same) = ([0; 4], [0; 4]);
+/// for words in [0, 1, 7, 65_536] {
+///     let decision = decide_with(block, &[1, 3], &mut out, &mut vec![u64::MAX; words])?;
+///     assert_eq!((decision, out), (decide(block, &[1, 3], &mut same)?, same));
+/// }
+/// # Ok::<(), cogthunder::Refusal>(())
+/// ```
+pub fn decide_with(test: &[u8], start: &[u8], out: &mut [u8], memo: &mut [u64]) -> Result<Decision, Refusal> {
+    let (out_len, words) = (out.len(), memo.len());
+    let (out, memo) = (out.as_mut_ptr(), memo.as_mut_ptr());
+    decision(unsafe {
+        ct_decide_with(test.as_ptr(), test.len(), start.as_ptr(), start.len(), out, out_len, memo, words)
+    })
+}
+
+/// A decision, from its word.
+fn decision(word: u64) -> Result<Decision, Refusal> {
+    match parts(word)? {
+        [FOUND, len, ..] => Ok(Decision::Found { len: len.into() }),
+        [NONE_LEFT, ..] => Ok(Decision::NoneLeft),
+        _ => unreachable!("a decision has no other case"),
+    }
 }
 
 /// Reads a test as text, and gives its table. It is refused by 1, 5, 7 to 11, 19 to 21 and 23.
@@ -748,6 +834,21 @@ mod tests {
         table.fence(1, Accesses::None, Accesses::None);
         table.load(1, 0, 0);
         table
+    }
+
+    #[test]
+    fn the_word_of_a_decision_has_the_length_of_its_order() {
+        let block = include_bytes!("../../samples/C1.block");
+        let call = |test: &[u8], start: &[u8], room: usize| {
+            let mut out = vec![9; room];
+            let (from, to) = (start.as_ptr(), out.as_mut_ptr());
+            let word = unsafe { ct_decide(test.as_ptr(), test.len(), from, start.len(), to, room) };
+            (word.to_le_bytes(), out)
+        };
+        assert_eq!(call(block, &[], 5), ([FOUND, 4, 0, 0, 0, 0, 0, 0], vec![1, 2, 3, 0, 9]));
+        assert_eq!(call(block, &[3, 1, 2, 0], 5), ([NONE_LEFT, 0, 0, 0, 0, 0, 0, 0], vec![9; 5]));
+        assert_eq!(call(block, &[3, 1, 2, 0], 3), ([REFUSED, 16, NO_RECORD, 0, 0, 0, 0, 0], vec![9; 3]));
+        assert_eq!(call(&block[1..], &[255; 300], 0), ([REFUSED, 1, NO_RECORD, 0, 0, 0, 0, 0], vec![]));
     }
 
     #[test]

@@ -1,15 +1,23 @@
 //! All witnesses of a test, one after the other.
 
-use crate::answers::{Answer, Refusal};
-use crate::library::{search, search_pruned, search_text};
+use crate::answers::{Answer, Decision, Refusal};
+use crate::library::{decide, read, search, search_pruned, search_text};
 use crate::{EVENTS, LARGEST_ALLOWANCE};
 use std::iter::FusedIterator;
 
 /// How many prefixes one search call visits at most, unless another allowance is chosen.
 const ALLOWANCE: u64 = 1_000_000;
 
-/// [`search`], [`search_pruned`], or [`search_text`].
+/// [`search`], [`search_pruned`], [`search_text`], or [`decided`].
 type Search = fn(&[u8], &[u8], &mut [u8], u64) -> Result<Answer, Refusal>;
+
+/// [`decide`] as a search that visits nothing, and has no use for an allowance.
+fn decided(test: &[u8], start: &[u8], out: &mut [u8], _: u64) -> Result<Answer, Refusal> {
+    Ok(match decide(test, start, out)? {
+        Decision::Found { len } => Answer::Found { len, visited: 0 },
+        Decision::NoneLeft => Answer::NoneLeft { visited: 0 },
+    })
+}
 
 /// All witnesses of a test, ascending, each as an order: the numbers of its memory events. An outcome without a witness
 /// is forbidden.
@@ -46,6 +54,8 @@ type Search = fn(&[u8], &[u8], &mut [u8], u64) -> Result<Answer, Refusal>;
 /// assert_eq!((all.visited(), pruned.visited()), (64, 34));
 /// # Ok::<(), cogthunder::Refusal>(())
 /// ```
+///
+/// [`decided`](Witnesses::decided) gives them too, visits no prefixes at all, and takes no allowance.
 #[derive(Clone, Debug)]
 pub struct Witnesses<'a> {
     search: Search,
@@ -98,6 +108,50 @@ impl<'a> Witnesses<'a> {
         Witnesses::by(search_pruned, test, start)
     }
 
+    /// From the beginning, by decisions ([`decide`]): no allowance bounds a step, none is spent, and the number visited stays 0. It
+    /// is refused by 1 to 11 and 21, as the test is.
+    ///
+    /// ```
+    /// use cogthunder::{Table, Witnesses};
+    ///
+    /// // Four harts store to four locations, and load each of them: 20 events, with more than 10^18 clean orders.
+    /// let mut table = Table::new(4, 4);
+    /// for hart in 0..4 {
+    ///     table.store(hart, hart, 1);
+    ///     for location in 0..4 {
+    ///         table.load(hart, location, u16::from(location == hart));
+    ///     }
+    /// }
+    /// let test = table.test()?;
+    /// let mut walk = Witnesses::decided(&test)?;
+    /// let first = walk.next().expect("each hart can read past its store");
+    /// assert_eq!(first[..5], [1, 2, 3, 4, 6]);
+    /// assert!(walk.next() > Some(first));
+    /// assert_eq!(walk.visited(), 0);
+    /// # Ok::<(), cogthunder::Refusal>(())
+    /// ```
+    pub fn decided(test: &'a [u8]) -> Result<Witnesses<'a>, Refusal> {
+        Witnesses::resume_decided(test, &[])
+    }
+
+    /// Those that are greater than a start, by decisions: it may be any list of bytes, a witness or not. It is refused by 1 to 11
+    /// and 21, as the test is.
+    ///
+    /// ```
+    /// use cogthunder::Witnesses;
+    ///
+    /// let block = include_bytes!(concat!(env!("CARGO_MANIFEST_DIR"), "/../samples/C1.block"));
+    /// let all: Vec<Vec<u8>> = Witnesses::decided(block)?.collect();
+    /// assert!(Witnesses::of(block)?.eq(all.iter().cloned()));
+    /// assert!(Witnesses::resume_decided(block, &all[2])?.eq(all[3..].iter().cloned()));
+    /// assert_eq!(Witnesses::resume_decided(block, &[3, 255])?.next(), None);
+    /// # Ok::<(), cogthunder::Refusal>(())
+    /// ```
+    pub fn resume_decided(test: &'a [u8], start: &[u8]) -> Result<Witnesses<'a>, Refusal> {
+        read(test)?;
+        Ok(Witnesses::from(decided, test, start))
+    }
+
     /// From the beginning, of a test as text ([`search_text`]). It is refused as by [`read_text`](crate::read_text).
     ///
     /// ```
@@ -145,7 +199,12 @@ impl<'a> Witnesses<'a> {
     fn by(search: Search, test: &'a [u8], start: &[u8]) -> Result<Witnesses<'a>, Refusal> {
         // Without any allowance, the call only tells whether it is refused.
         search(test, start, &mut [0; EVENTS], 0)?;
-        Ok(Witnesses { search, test, start: start.to_vec(), allowance: ALLOWANCE, visited: 0, finished: false })
+        Ok(Witnesses::from(search, test, start))
+    }
+
+    /// From a start that isn't refused.
+    fn from(search: Search, test: &'a [u8], start: &[u8]) -> Witnesses<'a> {
+        Witnesses { search, test, start: start.to_vec(), allowance: ALLOWANCE, visited: 0, finished: false }
     }
 
     /// Chooses how many prefixes one search call visits at most: 1 to [`LARGEST_ALLOWANCE`], and what is outside is taken

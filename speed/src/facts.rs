@@ -1,6 +1,6 @@
 //! What is prepared of a table before a search: masks of events, in plain Rust. No pair of events is asked.
 
-use crate::table::{Event, Table, EVENTS, FENCE, FENCE_TSO, HARTS, LOCATIONS, LR, SC, STORE};
+use crate::table::{Event, Mask, Table, EVENTS, FENCE, FENCE_TSO, HARTS, LOCATIONS, LR, SC, STORE};
 
 pub const ACQUIRE: u8 = 0b0011;
 pub const RELEASE: u8 = 0b1100;
@@ -10,29 +10,29 @@ const PW: u8 = 2;
 const SR: u8 = 4;
 const SW: u8 = 8;
 
-/// For each event a mask of others. Where a mask says nothing of an event, as that of the own writers of one that doesn't
-/// read, it is empty.
-#[derive(Clone, Default)]
-pub struct Facts {
+/// For each event of up to N a mask of others. Where a mask says nothing of an event, as that of the own writers of one that
+/// doesn't read, it is empty.
+#[derive(Clone)]
+pub struct Facts<const N: usize = EVENTS> {
     pub memory: u32,
     /// Those that steady rules put before it, and those that wait for it.
-    pub pred: [u32; EVENTS],
-    pub succ: [u32; EVENTS],
+    pub pred: [u32; N],
+    pub succ: [u32; N],
     /// The writers to the location that it reads, earlier on its hart.
-    pub own: [u32; EVENTS],
+    pub own: [u32; N],
     /// Those that have to be placed before its hart returns from it: what it depends on, and itself unless it is a plain store.
-    pub needs: [u32; EVENTS],
+    pub needs: [u32; N],
     /// Once one of these and all of its ground are placed, and it isn't, no other hart may write its location: by rule 2, or by
     /// atomicity.
-    pub window: [u32; EVENTS],
-    pub ground: [u32; EVENTS],
+    pub window: [u32; N],
+    pub ground: [u32; N],
     /// Those at the location that it writes, of other harts, that have a window.
-    pub guards: [u32; EVENTS],
+    pub guards: [u32; N],
     /// The readers at the location that it writes, and of these those that state what it writes.
-    pub here: [u32; EVENTS],
-    pub right: [u32; EVENTS],
+    pub here: [u32; N],
+    pub right: [u32; N],
     /// The other writers to the location that it writes.
-    pub peers: [u32; EVENTS],
+    pub peers: [u32; N],
     /// The writers to locations whose final value is stated, and the events that leave no wrong one.
     pub stated: u32,
     pub ends: u32,
@@ -75,7 +75,7 @@ pub fn highest(mask: u32) -> usize {
 }
 
 impl Sets {
-    fn of(t: &Table) -> Sets {
+    fn of<M: Mask, const N: usize>(t: &Table<M, N>) -> Sets {
         let mut sets = Sets::default();
         for (e, x) in t.events[..t.count].iter().enumerate() {
             sets.readers |= bit_if(x.reads(), e);
@@ -95,11 +95,11 @@ impl Sets {
     }
 
     /// The memory events earlier on an event's hart, and those at its location.
-    fn earlier(&self, e: usize, x: &Event) -> u32 {
+    fn earlier<M>(&self, e: usize, x: &Event<M>) -> u32 {
         under(self.harts[usize::from(x.hart)], e) & self.memory()
     }
 
-    fn place(&self, x: &Event) -> u32 {
+    fn place<M>(&self, x: &Event<M>) -> u32 {
         self.locations[usize::from(x.location)] & self.memory()
     }
 }
@@ -115,7 +115,7 @@ struct Passed {
 }
 
 impl Passed {
-    fn pass(&mut self, sets: &Sets, e: usize, x: &Event) {
+    fn pass<M: Mask + Into<u32>>(&mut self, sets: &Sets, e: usize, x: &Event<M>) {
         let earlier = sets.earlier(e, x);
         match x.kind {
             FENCE => {
@@ -128,7 +128,7 @@ impl Passed {
                 self.before_writes |= earlier;
             }
             _ => {
-                self.addressed |= earlier & u32::from(x.addr);
+                self.addressed |= earlier & x.addr.into();
                 self.reserved &= !mask_if(matches!(x.kind, LR | SC), earlier);
                 self.reserved |= bit_if(x.kind == LR, e);
             }
@@ -136,10 +136,10 @@ impl Passed {
     }
 
     /// The memory events that steady rules put before this one.
-    fn predecessors(&self, sets: &Sets, e: usize, x: &Event) -> u32 {
+    fn predecessors<M: Mask + Into<u32>>(&self, sets: &Sets, e: usize, x: &Event<M>) -> u32 {
         let earlier = sets.earlier(e, x);
-        let always = sets.acquires | u32::from(x.addr | x.data);
-        let if_writes = sets.place(x) | self.before_writes | self.addressed | u32::from(x.ctrl);
+        let always = sets.acquires | (x.addr | x.data).into();
+        let if_writes = sets.place(x) | self.before_writes | self.addressed | x.ctrl.into();
         earlier
             & (always
                 | mask_if(x.reads(), self.before_reads)
@@ -150,18 +150,41 @@ impl Passed {
     }
 
     /// The LR paired with an SC, among those of its hart.
-    fn pair(&self, x: &Event) -> u32 {
+    fn pair<M>(&self, x: &Event<M>) -> u32 {
         mask_if(x.kind == SC, self.reserved)
     }
 }
 
-impl Facts {
-    pub fn of(t: &Table) -> Facts {
+impl<const N: usize> Facts<N> {
+    /// Of a table with these memory events, without what each says.
+    fn blank(memory: u32) -> Facts<N> {
+        let none = [0; N];
+        Facts {
+            memory,
+            pred: none,
+            succ: none,
+            own: none,
+            needs: none,
+            window: none,
+            ground: none,
+            guards: none,
+            here: none,
+            right: none,
+            peers: none,
+            stated: 0,
+            ends: 0,
+            good: 0,
+            unmet: false,
+        }
+    }
+
+    pub fn of<M: Mask + Into<u32>>(t: &Table<M, N>) -> Facts<N> {
         let sets = Sets::of(t);
-        let mut facts = Facts { memory: sets.memory(), ..Facts::default() };
+        let mut facts = Facts::blank(sets.memory());
         let mut passed = Passed::default();
         let mut windows = 0;
         for (e, x) in t.events[..t.count].iter().enumerate() {
+            facts.good |= bit_if(!x.reads() || t.initial[usize::from(x.location)] == x.read, e);
             if x.is_memory() {
                 facts.put_order(&sets, &passed, e, x);
                 facts.put_values(t, &sets, e, x);
@@ -178,7 +201,7 @@ impl Facts {
     }
 
     /// What has to do with the order alone.
-    fn put_order(&mut self, sets: &Sets, passed: &Passed, e: usize, x: &Event) {
+    fn put_order<M: Mask + Into<u32>>(&mut self, sets: &Sets, passed: &Passed, e: usize, x: &Event<M>) {
         let earlier = sets.earlier(e, x);
         self.pred[e] = passed.predecessors(sets, e, x);
         let mut left = self.pred[e];
@@ -187,7 +210,7 @@ impl Facts {
             left &= left - 1;
         }
         self.own[e] = mask_if(x.reads(), earlier & sets.place(x) & sets.writers);
-        self.needs[e] = u32::from(x.addr | x.data) | bit_if(x.kind != STORE, e);
+        self.needs[e] = (x.addr | x.data).into() | bit_if(x.kind != STORE, e);
         if x.kind == SC {
             self.window[e] = earlier & passed.pair(x);
             self.ground[e] = self.own[highest(self.window[e])];
@@ -197,9 +220,8 @@ impl Facts {
         }
     }
 
-    fn put_values(&mut self, t: &Table, sets: &Sets, e: usize, x: &Event) {
+    fn put_values<M: Mask>(&mut self, t: &Table<M, N>, sets: &Sets, e: usize, x: &Event<M>) {
         let (place, location) = (sets.place(x), usize::from(x.location));
-        self.good |= bit_if(!x.reads() || t.initial[location] == x.read, e);
         let is_stated = x.writes() && t.stated >> location & 1 == 1;
         self.stated |= bit_if(is_stated, e);
         self.ends |= bit_if(!is_stated || t.finals[location] == x.written, e);
@@ -247,7 +269,7 @@ impl Facts {
 }
 
 /// The later readers of an event's hart and location, up to the first that writes there.
-fn rereads(sets: &Sets, e: usize, x: &Event) -> u32 {
+fn rereads<M>(sets: &Sets, e: usize, x: &Event<M>) -> u32 {
     let later = sets.place(x) & sets.harts[usize::from(x.hart)] & !((2 << e) - 1);
     let again = later & sets.readers;
     match later & sets.writers {

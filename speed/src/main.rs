@@ -1,6 +1,10 @@
 //! Times the proved search and reading beside plain Rust with the same algorithms, on the same tests and in the same run.
 
 mod advice;
+mod bred;
+mod decide;
+mod decisions;
+mod drawn;
 mod facts;
 mod kept;
 mod listing;
@@ -132,8 +136,8 @@ fn time_readings(edition: u8, kinds: &[Vec<u8>]) {
     println!("{SUITE_BLOCKS} tests of edition {edition} read, ms: proved {p:.1}, Rust {q:.1}, ratio {:.2}", p / q);
 }
 
-/// With the path of the proved suite program it times both of them too. With a word it is the suite program, or times the
-/// second engine, texts, outcomes or advice.
+/// With the path of the proved suite program it times both of them too. With a word it is the suite program, times the second
+/// engine, texts, outcomes, advice or decisions, or breeds tables for these.
 fn main() {
     match std::env::args().nth(1).as_deref() {
         Some(suite::COMMAND) => return suite::run(),
@@ -141,6 +145,8 @@ fn main() {
         Some(texts::COMMAND) => return texts::run(),
         Some(outcomes::COMMAND) => return outcomes::run(),
         Some(advice::COMMAND) => return advice::run(),
+        Some(decisions::COMMAND) => return decisions::run(),
+        Some(bred::COMMAND) => return bred::run(),
         _ => {}
     }
     time_shapes();

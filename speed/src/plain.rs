@@ -13,7 +13,7 @@ pub enum Answer {
 
 const NOT_LISTED: Refusal = Refusal { line: 15, record: None };
 
-fn ready_of(facts: &Facts, rest: u32, placed: u32) -> u32 {
+pub fn ready_of<const N: usize>(facts: &Facts<N>, rest: u32, placed: u32) -> u32 {
     let mut left = rest;
     let mut ready = 0;
     while left != 0 {
@@ -26,16 +26,16 @@ fn ready_of(facts: &Facts, rest: u32, placed: u32) -> u32 {
     ready
 }
 
-impl Facts {
+impl<const N: usize> Facts<N> {
     /// With `good`, the readers that would read no wrong value at their locations now, the reader `e` reads a wrong one. An event
     /// that doesn't read does not.
-    fn misreads(&self, e: usize, placed: u32, good: u32) -> bool {
+    pub fn misreads(&self, e: usize, placed: u32, good: u32) -> bool {
         let missing = self.own[e] & !placed;
         let right = if missing == 0 { good } else { self.right[highest(missing)] };
         right >> e & 1 == 0
     }
 
-    fn good_after(&self, e: usize, good: u32) -> u32 {
+    pub fn good_after(&self, e: usize, good: u32) -> u32 {
         good & !self.here[e] | self.right[e]
     }
 
@@ -55,7 +55,9 @@ impl Facts {
         }
         true
     }
+}
 
+impl Facts {
     /// The last writer of each stated location leaves its final value. They are met soon from the end.
     fn has_finals(&self, order: &[u8]) -> bool {
         let mut left = self.stated;

@@ -1,6 +1,7 @@
-//! The proved searches, outcomes, advice and reading, by their signatures for C.
+//! The proved searches, decision, outcomes, advice and reading, by their signatures for C.
 
 use crate::advice::Advice;
+use crate::decide::Decision;
 use crate::listing::Listing;
 use crate::plain::Answer;
 use crate::reading::Refusal;
@@ -28,6 +29,15 @@ extern "C" {
         out: *mut u8,
         out_len: usize,
         allowance: u64,
+    ) -> u64;
+
+    fn ct_decide(
+        test: *const u8,
+        test_len: usize,
+        start: *const u8,
+        start_len: usize,
+        out: *mut u8,
+        out_len: usize,
     ) -> u64;
 
     fn ct_outcomes(
@@ -127,6 +137,19 @@ pub fn search_pruned(block: &[u8], start: &[u8], out: &mut [u8], allowance: u64)
             allowance,
         )
     })
+}
+
+/// The decision on a test of either edition.
+pub fn decide(test: &[u8], start: &[u8], out: &mut [u8]) -> Result<Decision, Refusal> {
+    // Each pointer is that of a slice, beside its length.
+    let word =
+        unsafe { ct_decide(test.as_ptr(), test.len(), start.as_ptr(), start.len(), out.as_mut_ptr(), out.len()) };
+    let [case, first, second, ..] = word.to_le_bytes();
+    match case {
+        FOUND => Ok(Decision::Found { len: first.into() }),
+        NONE_LEFT => Ok(Decision::NoneLeft),
+        _ => Err(refused(first, second)),
+    }
 }
 
 /// The next outcomes of a block.

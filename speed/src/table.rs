@@ -52,6 +52,15 @@ pub const XOR: u8 = 4;
 pub const LARGER: u8 = 5;
 pub const SMALLER: u8 = 6;
 
+/// How many bytes a test has that stands at the front of these.
+pub fn length(tests: &[u8]) -> usize {
+    if tests[EDITION_AT] == EDITION_TWO {
+        TEST_TWO
+    } else {
+        BLOCK
+    }
+}
+
 /// A mask of events: two bytes in edition 1, four in edition 2.
 pub trait Mask: Copy + Default + Eq + BitOr<Output = Self> + BitAnd<Output = Self> + Not<Output = Self> {
     fn of(event: usize) -> Self;

@@ -1,4 +1,4 @@
--- The word of the code's reply to a search call of a block or a text, whose length stands for the prefix in the buffer; and what has room in it.
+-- The word of the code's reply to a search or a decision, whose length stands for the prefix in the buffer; and what fits in it.
 use Prim.Native.Nat.{ℕ, _^_, _<_}
 use Rattle.refusals.specs.Refusals.{refusalOf}
 use Rattle.witness_walk.specs.declared.Ending.{Ending}
@@ -11,6 +11,8 @@ use Rattle.bench.specs.declared.TextReply.{TextReply}
 use Rattle.bench.specs.declared.TextReply.the-variants.{Illegal, Searched}
 use Rattle.outcome_listing.specs.declared.OutcomeReply.{OutcomeReply}
 use Rattle.outcome_listing.specs.declared.OutcomeReply.the-variants as outcome
+use Rattle.deciding.specs.declared.Decision.{Decision}
+use Rattle.deciding.specs.declared.Decision.the-variants as decision
 use Rattle.answer_word.specs.Words.{word, noRecord, refusalWord}
 
 abbrev pub endingWord : Ending → ℕ
@@ -33,6 +35,11 @@ listedWord told (outcome.Listed n w) = word 7 w 0 0 (told n)
 listedWord told outcome.NoneLeft = word 8 0 0 0 0
 listedWord told outcome.Spent = word 9 0 0 0 0
 
+abbrev pub decidedWord : Decision → ℕ
+decidedWord (decision.Refused r) = refusalWord (refusalOf r)
+decidedWord (decision.Found len) = word 7 len 0 0 0
+decidedWord decision.NoneLeft = word 8 0 0 0 0
+
 -- a length below a byte's bound, a visited number below that of four bytes
 abbrev pub EndingFits : Ending → Type 0
 EndingFits (Found len v) = (len < 256) × (v < 2 ^ 32)
@@ -51,3 +58,8 @@ PlaceFits (text.Table r) = Unit {0}
 abbrev pub TextGivenFits : TextReply → Type 0
 TextGivenFits (Illegal n place) = place < 2 ^ 32
 TextGivenFits (Searched r) = GivenFits r
+
+abbrev pub DecisionFits : Decision → Type 0
+DecisionFits (decision.Refused r) = Unit {0}
+DecisionFits (decision.Found len) = len < 256
+DecisionFits decision.NoneLeft = Unit {0}

@@ -2,6 +2,7 @@
 -- number or the place of a byte or a set of events or, in bytes 4 and 5, a set of rules.
 use Prim.Native.Nat.{ℕ, _+_, _*_, _-_, _^_}
 use mathlib.Core.List.{List, [], _∷_}
+use mathlib.Core.Option.{Option, none, some}
 use lib.ListN.{length, getD}
 use Rattle.lists.specs.Reply.{Reply, refused, answered}
 use Rattle.refusals.specs.Lines.{Refused, accepted, byLine, byRecord, byPlace}
@@ -90,3 +91,9 @@ outcomeWord r = listingWord (λ n. 0) r
 -- the next outcomes, with their number
 abbrev pub outcomesWord : Reply Refused Listing → ℕ
 outcomesWord r = listingWord (λ n. n) r
+
+-- 7: found, with the number of entries that were written; 8: none left
+abbrev pub decisionWord : Reply Refused (Option (List ℕ)) → ℕ
+decisionWord (refused r) = refusalWord r
+decisionWord (answered (some p)) = word 7 (length p) 0 0 0
+decisionWord (answered none) = word 8 0 0 0 0

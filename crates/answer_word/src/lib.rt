@@ -1,6 +1,7 @@
 // An answer as one word of 64 bits, for C.
 use advising::Advice;
 use bench::TextReply;
+use deciding::Decision;
 use outcome_listing::OutcomeReply;
 use pair_rules::PairRules;
 use refusals::Refusal;
@@ -20,7 +21,8 @@ ghost use Rattle.steps.specs.Replies.{stepOf};
 ghost use Rattle.advising.specs.Replies.{adviceOf};
 ghost use Rattle.answer_word.specs.Words.{word, refusalWord, rulesMask, lowestOf, verdictWord, judgedWord, ruledWord, stepWord, adviceWord};
 ghost use Rattle.text.specs.TextRefusals.{textRefusalOf};
-ghost use Rattle.answer_word.specs.Given.{endingWord, givenWord, listedWord, textGivenWord, EndingFits, GivenFits, PlaceFits, TextGivenFits};
+ghost use Rattle.answer_word.specs.Given.{endingWord, givenWord, listedWord, textGivenWord, decidedWord};
+ghost use Rattle.answer_word.specs.Given.{EndingFits, GivenFits, PlaceFits, TextGivenFits, DecisionFits};
 
 // The case of an answer: byte 0 of its word.
 struct Case;
@@ -240,5 +242,16 @@ pub fn outcomes_word(reply: OutcomeReply) -> u64
         ),
         OutcomeReply::NoneLeft => word(Case::NONE_LEFT, 0, 0, 0, 0),
         OutcomeReply::Spent => word(Case::SPENT, 0, 0, 0, 0),
+    }
+}
+
+pub fn decision_word(decision: Decision) -> u64
+    requires { ⌜ DecisionFits decision ⌝ }
+    ensures { λ r. ⌜ r ≡ decidedWord decision ⌝ }
+{
+    match decision {
+        Decision::Refused(refusal) => refusal_word(refusal),
+        Decision::Found(len) => word(Case::FOUND, len as u8, 0, 0, 0),
+        Decision::NoneLeft => word(Case::NONE_LEFT, 0, 0, 0, 0),
     }
 }

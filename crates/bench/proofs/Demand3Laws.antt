@@ -4,7 +4,6 @@ use mathlib.Core.Path.{_≡_, refl, sym, ap, _∙_, subst}
 use mathlib.Core.Bool.{Bool, true, false, not, true≢false}
 use mathlib.Core.List.{List, [], _∷_, List·Memᴰ·head, List·Memᴰ·not-nil}
 use mathlib.Core.Logic.{_↔_}
-use lib.ListN.{length}
 use borrow.Author.Tests.{not-true}
 use Rattle.lists.specs.Lists.{_∈_, keep}
 use Rattle.lists.specs.Reply.{Reply, answered}
@@ -14,7 +13,7 @@ use Rattle.refusals.specs.Lines.{Refused, accepted, byLine, byRecord, byPlace, 
 use Rattle.refusals.proofs.LineLaws.{line-refuses, record-refuses, place-refuses}
 use Rattle.prefixes.specs.Listed.{after}
 use Rattle.prefixes.specs.Answer.{Answer}
-use Rattle.prefixes.specs.Walk.{startAfter, reached, handed, visited, finished}
+use Rattle.prefixes.specs.Walk.{startAfter, reached, handed, finished}
 use Rattle.prefixes.specs.Statements.{Walked}
 use Rattle.prefixes.proofs.AnswerLaws.{larger-allowance}
 use Rattle.prefixes.proofs.WalkLaws.{walked}
@@ -25,77 +24,72 @@ use Rattle.bench.specs.Search.{Searched, refusalTo, replyTo}
 use Rattle.bench.specs.Demands.{isWitness, prefixes, Call, Walk, refusalIn, FinalReply, Demand3}
 use Rattle.bench.proofs.ReplyLaws.{Sound, replied, listed-are, listed-ascending, listed-nonempty, honest, declined, witness-is-listed}
 
--- a list without entries is empty
-without : {A : Type 0} (l : List A) → ((x : A) → x ∈ l → ⊥) → l ≡ []
-without [] h = refl
-without (x ∷ l) h = absurd (h x (List·Memᴰ·head refl))
+-- a list of exactly the entries that pass is empty exactly where none passes
+pub empty-where-none : {A : Type 0} (passes : A → Bool) (l : List A) → ((x : A) → x ∈ l → passes x ≡ true) →
+    ((x : A) → passes x ≡ true → x ∈ l) → (l ≡ []) ↔ ((x : A) → passes x ≡ false)
+empty-where-none {A = A} passes l only each = (
+  λ e x. none x (passes x) (λ k. subst (λ (l : List A). x ∈ l) e (each x k)),
+  λ f. without l (λ x m. true≢false (sym (only x m) ∙ f x)),
+)
+  where
+    none : (x : A) (b : Bool) → (b ≡ true → x ∈ []) → b ≡ false
+    none x true m = absurd (List·Memᴰ·not-nil (m refl))
+    none x false m = refl
 
--- what demand 3 says of the start reached, the orders handed out, the visited numbers and whether the walk is finished
-abbrev Holds : (q : Searched) (reached : List ℕ) (orders : List (List ℕ)) (visited : ℕ) (finished : Bool) → Type 0
-Holds q p orders n done =
-    ((gmo : List ℕ) → (gmo ∈ orders) ↔ ((isWitness q gmo ≡ true) × (less p gmo ≡ false)))
+    without : (l : List A) → ((x : A) → x ∈ l → ⊥) → l ≡ []
+    without [] h = refl
+    without (x ∷ l) h = absurd (h x (List·Memᴰ·head refl))
+
+-- what demand 3 says of the goal, the start reached, the orders handed out and whether the walk is finished
+abbrev pub Holds : (goal : List ℕ → Bool) (reached : List ℕ) (orders : List (List ℕ)) (finished : Bool) → Type 0
+Holds goal p orders done =
+    ((gmo : List ℕ) → (gmo ∈ orders) ↔ ((goal gmo ≡ true) × (less p gmo ≡ false)))
     × Ascending orders
-    × (done ≡ true → (gmo : List ℕ) → isWitness q gmo ≡ true → gmo ∈ orders)
-    × (n ≡ length (keep (λ q. not (less p q)) (prefixes q)))
-    × (done ≡ true → (orders ≡ []) ↔ ((gmo : List ℕ) → isWitness q gmo ≡ false))
+    × (done ≡ true → (gmo : List ℕ) → goal gmo ≡ true → gmo ∈ orders)
+    × (done ≡ true → (orders ≡ []) ↔ ((gmo : List ℕ) → goal gmo ≡ false))
 
--- the walk by the definition's replies
-module _ (q : Searched) (sound : Sound q) (cs : List Call) where
-  abbrev startReached : List ℕ
-  startReached = reached (replied q) [] cs
+-- a walk along a list that has every goal
+module _ {C : Type 0} (goal : List ℕ → Bool) (l : List (List ℕ)) (each : (p : List ℕ) → goal p ≡ true → p ∈ l)
+    (reply : List ℕ → C → Reply Refused Answer) (cs : List C) (walk : Walked goal l reply cs) where
+  abbrev end : List ℕ
+  end = reached reply [] cs
 
-  abbrev handedOut : List (List ℕ)
-  handedOut = handed (replied q) [] cs
+  abbrev orders : List (List ℕ)
+  orders = handed reply [] cs
 
-  abbrev isFinished : Bool
-  isFinished = finished (replied q) [] cs
-
-  -- what the walk has done
-  walk : Walked (isWitness q) (prefixes q) (replied q) cs
-  walk = walked (isWitness q) (prefixes q) (replied q) (listed-nonempty q) (listed-ascending q) (honest q) cs
-
-  -- handed out are the witnesses that aren't greater than the start reached
-  exact : (gmo : List ℕ) → (gmo ∈ handedOut) ↔ ((isWitness q gmo ≡ true) × (less (startReached) gmo ≡ false))
-  exact gmo = (only, each)
+  -- handed out are the goals that aren't greater than the start reached
+  exact : (gmo : List ℕ) → (gmo ∈ orders) ↔ ((goal gmo ≡ true) × (less end gmo ≡ false))
+  exact gmo = (only, all)
     where
       upto : List ℕ → Bool
-      upto p = not (less (startReached) p)
+      upto p = not (less end p)
 
-      only : gmo ∈ handedOut → (isWitness q gmo ≡ true) × (less (startReached) gmo ≡ false)
+      only : gmo ∈ orders → (goal gmo ≡ true) × (less end gmo ≡ false)
       only m =
-          let r = keep-only (isWitness q) (keep upto (prefixes q)) gmo (subst (λ (l : List (List ℕ)). gmo ∈ l) (walk .exact) m) in
-          (r .1, not-true _ (keep-only upto (prefixes q) gmo (r .0) .1))
+          let r = keep-only goal (keep upto l) gmo (subst (λ (l : List (List ℕ)). gmo ∈ l) (walk .exact) m) in
+          (r .1, not-true _ (keep-only upto l gmo (r .0) .1))
 
-      each : (isWitness q gmo ≡ true) × (less (startReached) gmo ≡ false) → gmo ∈ handedOut
-      each h =
+      all : (goal gmo ≡ true) × (less end gmo ≡ false) → gmo ∈ orders
+      all h =
           subst (λ (l : List (List ℕ)). gmo ∈ l) (sym (walk .exact))
-          (keep-each (isWitness q) (keep upto (prefixes q)) gmo
-          (keep-each upto (prefixes q) gmo (witness-is-listed q sound gmo (h .0)) (ap not (h .1))) (h .0))
+          (keep-each goal (keep upto l) gmo (keep-each upto l gmo (each gmo (h .0)) (ap not (h .1))) (h .0))
 
-  -- once none are left, every witness was handed out
-  complete : isFinished ≡ true → (gmo : List ℕ) → isWitness q gmo ≡ true → gmo ∈ handedOut
-  complete h gmo k = go (less (startReached) gmo) refl
+  -- once none are left, every goal was handed out
+  complete : finished reply [] cs ≡ true → (gmo : List ℕ) → goal gmo ≡ true → gmo ∈ orders
+  complete h gmo k = go (less end gmo) refl
     where
-      go : (b : Bool) → less (startReached) gmo ≡ b → gmo ∈ handedOut
+      go : (b : Bool) → less end gmo ≡ b → gmo ∈ orders
       go true e =
           absurd (List·Memᴰ·not-nil (subst (λ (l : List (List ℕ)). gmo ∈ l) (walk .complete h)
-          (keep-each (isWitness q) (after (startReached) (prefixes q)) gmo
-          (keep-each (less (startReached)) (prefixes q) gmo (witness-is-listed q sound gmo k) e) k)))
+          (keep-each goal (after end l) gmo (keep-each (less end) l gmo (each gmo k) e) k)))
       go false e = exact gmo .1 (k, e)
 
-  -- a finished walk has handed out nothing exactly where there is no witness
-  forbidden : isFinished ≡ true → (handedOut ≡ []) ↔ ((gmo : List ℕ) → isWitness q gmo ≡ false)
-  forbidden h = (
-    λ e gmo. none gmo (isWitness q gmo) (λ k. subst (λ (l : List (List ℕ)). gmo ∈ l) e (complete h gmo k)),
-    λ f. without (handedOut) (λ gmo m. true≢false (sym (exact gmo .0 m .0) ∙ f gmo)),
-  )
-    where
-      none : (gmo : List ℕ) (b : Bool) → (b ≡ true → gmo ∈ []) → b ≡ false
-      none gmo true m = absurd (List·Memᴰ·not-nil (m refl))
-      none gmo false m = refl
-
-  holds : Holds q startReached handedOut (visited (replied q) [] cs) isFinished
-  holds = (exact, walk .ascending, complete, walk .counted, forbidden)
+  -- by whatever replies alike
+  pub holds : (by : List ℕ → C → Reply Refused Answer) → Alike by reply [] cs →
+      Holds goal (reached by [] cs) (handed by [] cs) (finished by [] cs)
+  holds by a =
+      rw (reached-alike by reply [] cs a, handed-alike by reply [] cs a, finished-alike by reply [] cs a)
+      (exact, walk .ascending, complete, λ h. empty-where-none goal orders (λ gmo m. exact gmo .0 m .0) (complete h))
 
 -- what the entry promised agrees with the definition's replies, call by call
 alike : (q : Searched) (start : List ℕ) (cs : List Call) → Walk q start cs → Alike (λ p c. c .told) (replied q) start cs
@@ -128,8 +122,8 @@ demand3 q sound cs w = record {
   exact = h .0;
   ascending = h .1;
   complete = h .2;
-  counted = h .3;
-  forbidden = h .4;
+  counted = rw (visited-alike by (replied q) [] cs a, reached-alike by (replied q) [] cs a) (walk .counted);
+  forbidden = h .3;
   listed = listed-are q sound;
   in-order = listed-ascending q;
   declined = λ n start c p. p .0 ∙ declined q n start c;
@@ -145,5 +139,8 @@ demand3 q sound cs w = record {
     a : Alike by (replied q) [] cs
     a = alike q [] cs w
 
-    h : Holds q (reached by [] cs) (handed by [] cs) (visited by [] cs) (finished by [] cs)
-    h = rw (reached-alike by (replied q) [] cs a, handed-alike by (replied q) [] cs a, visited-alike by (replied q) [] cs a, finished-alike by (replied q) [] cs a) (holds q sound cs)
+    walk : Walked (isWitness q) (prefixes q) (replied q) cs
+    walk = walked (isWitness q) (prefixes q) (replied q) (listed-nonempty q) (listed-ascending q) (honest q) cs
+
+    h : Holds (isWitness q) (reached by [] cs) (handed by [] cs) (finished by [] cs)
+    h = holds (isWitness q) (prefixes q) (witness-is-listed q sound) (replied q) cs walk by a

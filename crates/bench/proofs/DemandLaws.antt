@@ -1,6 +1,7 @@
 -- The demands hold, of everything that may be handed in.
 use Prim.Native.Nat.{ℕ}
 use mathlib.Core.Path.{_≡_, refl, sym, subst, _∙_}
+use mathlib.Core.Option.{Option}
 use mathlib.Core.List.{List}
 use native.Mathlib.Omega.{arith}
 use Rattle.lists.specs.Reply.{answered}
@@ -30,7 +31,9 @@ use Rattle.text.specs.Texts.{textLines, textRefusal}
 use Rattle.bench.specs.Candidate.{verdictLines, verdictOf, returnsLines, returnsRefusal, returnsBuffer}
 use Rattle.bench.specs.PairRules.{rulesLines, rulesOf}
 use Rattle.bench.specs.Steps.{machineLines, machineReply}
+use Rattle.deciding.specs.Replies.{decidedBuffer}
 use Rattle.bench.specs.Advice.{adviseLines, adviceReply}
+use Rattle.bench.specs.Decisions.{decideLines, decideReply, decideBuffer}
 use Rattle.bench.specs.Search.{ofBlock, ofBlockPruned, refusalTo, replyTo, bufferLeft, searchLines, prunedLines, ofText, textSearchLines}
 use Rattle.outcomes.specs.Outcomes.{Listing}
 use Rattle.outcome_listing.specs.Replies.{placesAfter}
@@ -62,12 +65,20 @@ listing-unaltered (byLine n) a out h = refl
 listing-unaltered (byRecord n k) a out h = refl
 listing-unaltered (byPlace n p) a out h = refl
 
+-- and a refused decision
+decision-unaltered : (r : Refused) (a : Option (List ℕ)) (out : List ℕ) →
+    Unaltered (refusalIn (replyUnless r a)) out (decidedBuffer (replyUnless r a) out)
+decision-unaltered accepted a out h = absurd (h refl)
+decision-unaltered (byLine n) a out h = refl
+decision-unaltered (byRecord n k) a out h = refl
+decision-unaltered (byPlace n p) a out h = refl
+
 -- the answer's refusal is exactly that of its lines
 exactly-of : (n : ℕ) (ls : List Line) (r : Refused) → r ≡ firstLine n ls → Exactly n ls r
 exactly-of n ls r e = subst (Exactly n ls) (sym e) (first-exactly n ls)
 
 demand1 : (s : List ℕ) (t : Table) (rf gmo start out : List ℕ) (a b allowance k : ℕ) → Demand1 s t rf gmo start out a b allowance k
-unfolding readRefusal textRefusal writeRefusal writtenBlock verdictOf rulesOf machineReply adviceReply listingReply listingBuffer returnsRefusal returnsBuffer refusalTo replyTo bufferLeft
+unfolding readRefusal textRefusal writeRefusal writtenBlock verdictOf rulesOf machineReply adviceReply decideReply decideBuffer listingReply listingBuffer returnsRefusal returnsBuffer refusalTo replyTo bufferLeft
 demand1 s t rf gmo start out a b allowance k = record {
   read = first-exactly _ (readingLines s);
   write = first-exactly _ (writingLines t out);
@@ -82,6 +93,8 @@ demand1 s t rf gmo start out a b allowance k = record {
   search-unaltered = reply-unaltered (refusalTo (ofBlock s) start out allowance) _ out;
   pruned = exactly-of _ (prunedLines s start out allowance) _ (refusal-in _ _);
   pruned-unaltered = reply-unaltered (refusalTo (ofBlockPruned s) start out allowance) _ out;
+  decide = exactly-of _ (decideLines s out) _ (refusal-in _ _);
+  decide-unaltered = decision-unaltered (firstLine (decoded s .count) (decideLines s out)) _ out;
   outcome = λ most p. exactly-of _ (listingLines s p out allowance) _ (refusal-in _ _);
   outcome-unaltered = λ most p. listing-unaltered (firstLine (decoded s .count) (listingLines s p out allowance)) _ out;
   text = first-exactly _ (textLines s);
@@ -91,7 +104,7 @@ demand1 s t rf gmo start out a b allowance k = record {
 }
 
 -- an answer wasn't refused, and is the definition's
-answered-is : {A : Type 0} (r : Refused) (v w : A) → replyUnless r v ≡ answered w → (r ≡ accepted) × (v ≡ w)
+pub answered-is : {A : Type 0} (r : Refused) (v w : A) → replyUnless r v ≡ answered w → (r ≡ accepted) × (v ≡ w)
 answered-is accepted v w e = (refl, cc)
 answered-is (byLine n) v w e = absurd (let z : _≡_ {A = ℕ} 0 1 = cc in omega arith)
 answered-is (byRecord n k) v w e = absurd (let z : _≡_ {A = ℕ} 0 1 = cc in omega arith)

@@ -3,6 +3,7 @@ use Prim.Native.Nat.{ℕ, _≤_}
 use mathlib.Core.Path.{_≡_, refl, sym, ap, subst, _∙_}
 use mathlib.Core.Bool.{Bool, false}
 use native.Mathlib.Omega.{arith}
+use mathlib.Core.Option.{Option}
 use mathlib.Core.List.{List, _++_}
 use lib.ListN.{length, take}
 use mathlib.Core.Logic.{_≢_}
@@ -46,10 +47,14 @@ use Rattle.pair_rules.proofs.PairLaws.{RuledAs}
 use Rattle.steps.specs.Replies.{StepAnswer, IfTso, answerTo, stepLines, stepReply}
 use Rattle.advice.specs.Advice.{Advice, advice}
 use Rattle.advising.specs.Replies.{adviceLines, tableAdvice}
+use Rattle.states.specs.Decisions.{nextWitness}
+use Rattle.deciding.specs.declared.Decision.{Decision}
+use Rattle.deciding.specs.Replies.{decisionLines, tableDecision, decidedBuffer, decisionOf, orderLength, decidedLength, Decides}
 use Rattle.bench.specs.Candidate.{verdictLines, verdictOf, returnsLines, returnsRefusal, returnsBuffer}
 use Rattle.bench.specs.PairRules.{rulesLines, rulesOf}
 use Rattle.bench.specs.Steps.{machineLines, machineReply}
 use Rattle.bench.specs.Advice.{adviseLines, adviceReply}
+use Rattle.bench.specs.Decisions.{decideLines, decideReply, decideBuffer}
 use Rattle.bench.specs.Search.{Searched, ofBlockBy, ofText, linesTo, refusalTo, replyTo, bufferLeft, textReply, textBuffer}
 
 module _ (s : List ℕ) (ok : readRefusal s ≡ accepted) where
@@ -224,6 +229,28 @@ module _ (s bs : List ℕ) (b : ℕ) where
   step-answered t r ok e h =
       subst (λ (x : Table). r ≡ stepReply x bs b) e h
       ∙ entry-own (decoded s .count) (readingLines s) (stepLines (decoded s) bs b) (answerTo (decoded s) bs b) ok
+
+-- The entry for a decision.
+module _ (s start out : List ℕ) where
+  -- reading refuses
+  pub decide-declined : (q : Refused) → q ≡ readRefusal s → q ≢ accepted →
+      (refused q ≡ decideReply s start out) × ((out ≡ decideBuffer s start out) × (0 ≡ orderLength (decideReply s start out)))
+  unfolding decideBuffer decideReply decideLines readRefusal
+  decide-declined q e n =
+      let h = entry-declined (decoded s .count) (readingLines s) (decisionLines (decoded s) out) (nextWitness (decoded s) start) q e n in
+      (h, (ap (λ (r : Reply Refused (Option (List ℕ))). decidedBuffer r out) h, ap orderLength h))
+
+  -- it doesn't: the table's line and its witnesses decide
+  pub decide-answered : (t : Table) (r : Decision) (after : List ℕ) → readRefusal s ≡ accepted → t ≡ decoded s →
+      Decides (tableDecision t start out) out after r →
+      (decisionOf r after ≡ decideReply s start out)
+      × ((after ≡ decideBuffer s start out) × (decidedLength r ≡ orderLength (decideReply s start out)))
+  unfolding decideBuffer decideReply decideLines readRefusal tableDecision
+  decide-answered t r after ok e h =
+      let d = subst (λ (x : Reply Refused (Option (List ℕ))). Decides x out after r)
+      (ap (λ (x : Table). replyUnless (firstLine (x .count) (decisionLines x out)) (nextWitness x start)) e
+      ∙ entry-own (decoded s .count) (readingLines s) (decisionLines (decoded s) out) (nextWitness (decoded s) start) ok) h in
+      (d .replied, (d .buffer, d .length))
 
 -- The entry for advice.
 module _ (s : List ℕ) (b : ℕ) where

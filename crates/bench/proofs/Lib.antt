@@ -4,4 +4,5 @@ pub mod Demand3Laws
 pub mod EngineLaws
 pub mod DemandLaws
 pub mod OutcomeLaws
+pub mod DecideLaws
 pub mod StrongerLaws

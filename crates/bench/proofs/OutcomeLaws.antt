@@ -91,7 +91,7 @@ abbrev outcomesOf : List ℕ → List (List ℕ)
 outcomesOf s = unless (readRefusal s) (outcomes (decoded s)) []
 
 -- what holds of the outcomes of a table that was read, and of none
-by-reading : (P : List (List ℕ) → Type 0) (q : Refused) (l : List (List ℕ)) → (q ≡ accepted → P l) → P [] → P (unless q l [])
+pub by-reading : (P : List (List ℕ) → Type 0) (q : Refused) (l : List (List ℕ)) → (q ≡ accepted → P l) → P [] → P (unless q l [])
 by-reading P accepted l h n = h refl
 by-reading P (byLine k) l h n = n
 by-reading P (byRecord k r) l h n = n

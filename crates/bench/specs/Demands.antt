@@ -3,7 +3,8 @@ use Prim.Native.Nat.{ℕ, _≤_}
 use mathlib.Core.Path.{_≡_}
 use mathlib.Core.Bool.{Bool, true, false, not}
 use mathlib.Core.List.{List, [], _∷_}
-use mathlib.Core.Logic.{_↔_, _≢_}
+use mathlib.Core.Logic.{_↔_, _≢_, _⊎_}
+use mathlib.Core.Option.{Option, none}
 use lib.ListN.{length}
 use Rattle.lists.specs.Lists.{_∈_, keep}
 use Rattle.lists.specs.Reply.{Reply, refused, answered}
@@ -34,6 +35,8 @@ use Rattle.bench.specs.PairRules.{rulesLines, rulesOf}
 use Rattle.bench.specs.Steps.{machineLines, machineReply}
 use Rattle.bench.specs.Outcomes.{listingLines, listingReply, listingBuffer, OutcomeCall, OutcomeCalls, EveryOutcome}
 use Rattle.bench.specs.Advice.{adviseLines, adviceReply}
+use Rattle.bench.specs.Decisions.{decideLines, decideReply, decideBuffer}
+use Rattle.bench.specs.Decisions.{DecideCall, DecidePromised, DecideCalls, nextStart, ordersGiven, saidNoOther}
 use Rattle.bench.specs.Search.{Searched, ofBlock, ofBlockPruned, replyTo, bufferLeft, searchLines, searchReply, searchBuffer}
 use Rattle.bench.specs.Search.{prunedLines, prunedReply, prunedBuffer, ofText, textSearchLines, textReply, textBuffer}
 
@@ -74,6 +77,9 @@ module _ (s : List ℕ) (t : Table) (rf gmo start out : List ℕ) (a b allowance
     -- the same by the second engine, whose line 15 is over its own list
     pub pruned : Exactly (decoded s .count) (prunedLines s start out allowance) (refusalIn (prunedReply s start out allowance))
     pub pruned-unaltered : Unaltered (refusalIn (prunedReply s start out allowance)) out (prunedBuffer s start out allowance)
+    -- a decision: lines 1 to 11, 21 and 16
+    pub decide : Exactly (decoded s .count) (decideLines s out) (refusalIn (decideReply s start out))
+    pub decide-unaltered : Unaltered (refusalIn (decideReply s start out)) out (decideBuffer s start out)
     -- outcomes listed, of at most `most`: lines 1 to 11, 21, 12, 16 and 17; previous: the outcome that was given last
     pub outcome : (most : ℕ) (previous : List ℕ) →
         Exactly (decoded s .count) (listingLines s previous out allowance) (refusalIn (listingReply most s previous out allowance))
@@ -209,6 +215,39 @@ StepMachine =
 -- "Outcomes come in ascending order, each once": one claim over any list of calls on the same bytes
 abbrev pub OutcomesListed : Type 0
 OutcomesListed = (s : List ℕ) (cs : List OutcomeCall) → OutcomeCalls s [] cs → EveryOutcome s cs
+
+-- Decisions: one claim over any list of calls on the same bytes, of witnesses as in demand 3.
+module _ (s : List ℕ) (cs : List DecideCall) where
+  pub record EveryWitness : Type 0 where
+    -- the orders given are exactly the witnesses that aren't greater than the start reached
+    pub exact : (gmo : List ℕ) →
+        (gmo ∈ ordersGiven cs) ↔ ((isWitness (ofBlock s) gmo ≡ true) × (less (nextStart cs) gmo ≡ false))
+    -- each once, ascending
+    pub ascending : Ascending (ordersGiven cs)
+    -- if a call said that there is no other, there is none
+    pub complete : saidNoOther cs ≡ true → (gmo : List ℕ) → isWitness (ofBlock s) gmo ≡ true → gmo ∈ ordersGiven cs
+    -- and then no order was given exactly where no order is a witness
+    pub forbidden : saidNoOther cs ≡ true → (ordersGiven cs ≡ []) ↔ ((gmo : List ℕ) → isWitness (ofBlock s) gmo ≡ false)
+    -- what reading declines: every call is refused
+    pub declined : refusal (ofBlock s) ≢ accepted → (start : List ℕ) (c : DecideCall) → DecidePromised s start c →
+        c .told ≡ refused (refusal (ofBlock s))
+
+abbrev pub WitnessesDecided : Type 0
+WitnessesDecided = (s : List ℕ) (cs : List DecideCall) → DecideCalls s [] cs → EveryWitness s cs
+
+-- the first answer, if it isn't a refusal, is none exactly if no order is a witness
+abbrev pub FirstDecision : Type 0
+FirstDecision =
+    (s out : List ℕ) (o : Option (List ℕ)) → decideReply s [] out ≡ answered o →
+    (o ≡ none) ↔ ((gmo : List ℕ) → isWitness (ofBlock s) gmo ≡ false)
+
+-- decisions agree with every finished walk of either engine: they give the same orders in the same order, and the first answer, if it
+-- isn't a refusal, is none exactly if the walk has handed out no order
+abbrev pub DecisionAgrees : Type 0
+DecisionAgrees =
+    (s : List ℕ) (cs : List Call) → (Walk (ofBlock s) [] cs ⊎ Walk (ofBlockPruned s) [] cs) → isFinished cs ≡ true →
+    ((ds : List DecideCall) → DecideCalls s [] ds → saidNoOther ds ≡ true → ordersGiven ds ≡ handedOut cs)
+    × ((out : List ℕ) (o : Option (List ℕ)) → decideReply s [] out ≡ answered o → (o ≡ none) ↔ (handedOut cs ≡ []))
 
 -- "No smaller set than the one advised forbids the outcome", nor does one of its size that is tried before it, and with it no order is a
 -- witness; before a set that is undecided each leaves a witness; where fences don't help, all sets do.

@@ -5,5 +5,6 @@ pub mod PairRules
 pub mod Steps
 pub mod Outcomes
 pub mod Advice
+pub mod Decisions
 pub mod Demands
 pub mod Stronger

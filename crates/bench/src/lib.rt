@@ -1,6 +1,7 @@
 // The public entries on bytes. Each takes any bytes, lists and numbers, refuses for itself, and has no `requires`.
 use advising::Advice;
 use block::Reading;
+use deciding::Decision;
 use outcome_listing::OutcomeReply;
 use pair_rules::PairRules;
 use refusals::Refusal;
@@ -26,7 +27,9 @@ ghost use Rattle.bench.specs.Steps.{machineReply};
 ghost use Rattle.outcome_listing.specs.Replies.{mostOutcomes, listingOf, valuesIn, valuesOf};
 ghost use Rattle.bench.specs.Outcomes.{listingReply, listingBuffer, outcomeReply, outcomeBuffer, outcomesReply, outcomesBuffer};
 ghost use Rattle.advising.specs.Replies.{adviceOf};
+ghost use Rattle.deciding.specs.Replies.{decisionOf, decidedLength, orderLength, MemoAfter};
 ghost use Rattle.bench.specs.Advice.{adviceReply};
+ghost use Rattle.bench.specs.Decisions.{decideReply, decideBuffer};
 ghost use Rattle.text.specs.Texts.{textRefusal, textTable};
 ghost use Rattle.text.specs.TextRefusals.{textRefusalOf};
 ghost use Rattle.bench.specs.Search.{searchReply, searchBuffer, prunedReply, prunedBuffer, textReply, textBuffer};
@@ -121,6 +124,39 @@ pub fn step(bytes: &[u8], steps: &[u8], b: u64) -> StepReply
         Refusal::None => steps::answer(t, steps, b),
         Refusal::Line(n) => StepReply::Refused(Refusal::Line(n)),
         Refusal::Record(n, k) => StepReply::Refused(Refusal::Record(n, k)),
+    }
+}
+
+// The least witness that is greater than the start, written to the front of the buffer; none: there is no other. It always ends.
+pub fn decide(bytes: &[u8], start: &[u8], out: &mut [u8]) -> Decision
+    ensures { λ r. ⌜ decisionOf r (now (out .exit)) ≡ decideReply (now (bytes .entry)) (now (start .entry)) (now (out .entry)) ⌝ }
+    ensures { λ r. ⌜ now (out .exit) ≡ decideBuffer (now (bytes .entry)) (now (start .entry)) (now (out .entry)) ⌝ }
+    ensures { λ r. ⌜ decidedLength r ≡ orderLength (decideReply (now (bytes .entry)) (now (start .entry)) (now (out .entry))) ⌝ }
+{
+    let reading = block::read(bytes);
+    let refusal = reading.refusal;
+    let t = reading.table;
+    match refusal {
+        Refusal::None => deciding::decide(t, start, out),
+        Refusal::Line(n) => Decision::Refused(Refusal::Line(n)),
+        Refusal::Record(n, k) => Decision::Refused(Refusal::Record(n, k)),
+    }
+}
+
+// The same with a lent memo: the longer it is, the less is looked at twice. What is in it, before and after, is of no account.
+pub fn decide_with(bytes: &[u8], start: &[u8], out: &mut [u8], memo: &mut [u64]) -> Decision
+    ensures { λ r. ⌜ decisionOf r (now (out .exit)) ≡ decideReply (now (bytes .entry)) (now (start .entry)) (now (out .entry)) ⌝ }
+    ensures { λ r. ⌜ now (out .exit) ≡ decideBuffer (now (bytes .entry)) (now (start .entry)) (now (out .entry)) ⌝ }
+    ensures { λ r. ⌜ decidedLength r ≡ orderLength (decideReply (now (bytes .entry)) (now (start .entry)) (now (out .entry))) ⌝ }
+    ensures { λ r. ⌜ MemoAfter (now (memo .entry)) (now (memo .exit)) r ⌝ }
+{
+    let reading = block::read(bytes);
+    let refusal = reading.refusal;
+    let t = reading.table;
+    match refusal {
+        Refusal::None => deciding::decide_with(t, start, out, memo),
+        Refusal::Line(n) => Decision::Refused(Refusal::Line(n)),
+        Refusal::Record(n, k) => Decision::Refused(Refusal::Record(n, k)),
     }
 }
 

@@ -12,9 +12,12 @@ ghost use Rattle.bench.specs.PairRules.{rulesOf};
 ghost use Rattle.bench.specs.Steps.{machineReply};
 ghost use Rattle.bench.specs.Outcomes.{outcomeReply, outcomeBuffer, outcomesReply, outcomesBuffer};
 ghost use Rattle.bench.specs.Advice.{adviceReply};
+ghost use Rattle.bench.specs.Decisions.{decideReply, decideBuffer};
 ghost use Rattle.text.specs.Texts.{textRefusal, textTable};
 ghost use Rattle.bench.specs.Search.{searchReply, searchBuffer, prunedReply, prunedBuffer, textReply, textBuffer};
-ghost use Rattle.answer_word.specs.Words.{refusalWord, judgedWord, ruledWord, stepWord, outcomeWord, outcomesWord, adviceWord, replyWord};
+ghost use Rattle.answer_word.specs.Words.{refusalWord, judgedWord, ruledWord, stepWord, outcomeWord, outcomesWord, adviceWord};
+ghost use Rattle.answer_word.specs.Words.{replyWord, decisionWord};
+ghost use Rattle.capi.specs.Memos.{MemoLeft};
 ghost use Rattle.capi.specs.Parts.{partRefusal, partOffset, partLength};
 
 // Reading a block.
@@ -90,6 +93,31 @@ pub extern "C" fn ct_outcomes(
     ensures { λ r. ⌜ now (out .exit) ≡ outcomesBuffer (now (block .entry)) (now (previous .entry)) (now (out .entry)) allowance ⌝ }
 {
     answer_word::outcomes_word(bench::outcomes(block, previous, out, allowance))
+}
+
+// The least witness that is greater than the start, or none. It always ends.
+#[no_mangle]
+pub extern "C" fn ct_decide(block: &[u8], start: &[u8], out: &mut [u8]) -> u64
+    ensures { λ r. ⌜ r ≡ decisionWord (decideReply (now (block .entry)) (now (start .entry)) (now (out .entry))) ⌝ }
+    ensures { λ r. ⌜ now (out .exit) ≡ decideBuffer (now (block .entry)) (now (start .entry)) (now (out .entry)) ⌝ }
+{
+    answer_word::decision_word(bench::decide(block, start, out))
+}
+
+// The same with a lent memo, whose words don't matter; a refused call leaves them.
+#[no_mangle]
+pub extern "C" fn ct_decide_with(
+    block: &[u8],
+    start: &[u8],
+    out: &mut [u8],
+    memo: &mut [u64],
+) -> u64
+    ensures { λ r. ⌜ r ≡ decisionWord (decideReply (now (block .entry)) (now (start .entry)) (now (out .entry))) ⌝ }
+    ensures { λ r. ⌜ now (out .exit) ≡ decideBuffer (now (block .entry)) (now (start .entry)) (now (out .entry)) ⌝ }
+    ensures { λ r. ⌜ MemoLeft (now (memo .entry)) (now (memo .exit))
+        (decideReply (now (block .entry)) (now (start .entry)) (now (out .entry))) ⌝ }
+{
+    answer_word::decision_word(bench::decide_with(block, start, out, memo))
 }
 
 // Which fences to add, so that the stated outcome has no witness.

@@ -11,7 +11,7 @@ pub enum Command {
 // An argument that is longer is known to no program, and isn't shown.
 const LONGEST: usize = 256;
 
-fn same(a: &[u8], b: &[u8]) -> bool {
+pub fn same(a: &[u8], b: &[u8]) -> bool {
     if a.len() != b.len() {
         return false;
     }

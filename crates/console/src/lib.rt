@@ -6,6 +6,7 @@ mod stdin;
 
 pub use arguments::Command;
 pub use arguments::asked;
+pub use arguments::same;
 pub use arguments::unknown_argument;
 use libc::STDERR_FILENO;
 use libc::STDOUT_FILENO;

@@ -2,7 +2,7 @@
 use Prim.Native.Nat.{ℕ, _≤_, _<_}
 use native.Mathlib.Omega.{arith}
 use mathlib.Core.Path.{_≡_, refl, sym, ap, subst, _∙_}
-use mathlib.Core.Bool.{Bool, true, false, not, _&&_, _||_, or-true}
+use mathlib.Core.Bool.{Bool, true, false, cond, not, _&&_, _||_, or-true}
 use mathlib.Core.Logic.{⊎-elim}
 use lib.Bits.{bitAnd, bitXor}
 use lib.Dec.{eqb, ltb}
@@ -18,7 +18,7 @@ use Rattle.table.specs.Events.{capacity, event, kind, location, reads, store}
 use Rattle.placing.specs.Guards.{own, depends, within, forwarder, mayForward, mayRead, valueNow, readsStated}
 use Rattle.placing.proofs.GuardLaws.{within-at, at-within, forwards, own-parts}
 use Rattle.masks.specs.Parts.{highest}
-use Rattle.order_facts.specs.Facts.{maskBy, ownWriter, needed, here, right, good}
+use Rattle.order_facts.specs.Facts.{maskBy, ownWriter, needed, here, right, good, readsGood}
 use Rattle.masks.proofs.BelowLaws.{mask-within, mask-at, mask-less}
 use Rattle.masks.proofs.HighestLaws.{mask-none-last, mask-last}
 
@@ -26,6 +26,21 @@ use Rattle.masks.proofs.HighestLaws.{mask-none-last, mask-last}
 pub within-mask : (t : Table) (placed : ℕ) (f : ℕ → Bool) → within t (bit placed) f ≡ eqb (bitAnd (maskBy t f) placed) (maskBy t f)
 unfolding within maskBy
 within-mask t placed f = mask-within f (t .count) placed
+
+-- the stated value is returned, by the values and by the good
+pub stated-good : (t : Table) (placed : ℕ → Bool) (value : ℕ → ℕ) (e : ℕ) →
+    readsStated t placed value e ≡ readsGood t placed (good t value) e
+unfolding readsStated readsGood valueNow good
+stated-good t placed value e = go (reads t e) (ltb (forwarder t placed e) (t .count))
+  where
+    go : (r c : Bool) →
+        (not r || eqb (cond c (event t (forwarder t placed e) .written) (value (location t e))) (event t e .read))
+        ≡ (not r
+        || cond c (eqb (event t (forwarder t placed e) .written) (event t e .read))
+        (not r || eqb (value (location t e)) (event t e .read)))
+    go true true = refl
+    go true false = refl
+    go false c = refl
 
 -- a writer that isn't placed may be returned from exactly if all that it needs is
 forward-needed : (t : Table) (placed : ℕ → Bool) (w : ℕ) → w < t .count → placed w ≡ false →
@@ -76,13 +91,12 @@ module _ (t : Table) (room : t .count ≤ capacity) (placed r : ℕ) where
   unfolding mayRead
   read-none e = or-implied (reads t r) _ (λ h. rw (none-forwards h e) refl)
 
-  pub stated-none : (value : ℕ → ℕ) → missing ≡ 0 → readsStated t (bit placed) value r ≡ good t value r
-  unfolding readsStated valueNow good
-  stated-none value e = go (reads t r) refl
+  pub good-none : (now : ℕ → Bool) → missing ≡ 0 → cond (reads t r) (readsGood t (bit placed) now r) (now r) ≡ now r
+  unfolding readsGood
+  good-none now e = go (reads t r) refl
     where
-      go : (b : Bool) → reads t r ≡ b →
-          (not b || eqb (valueNow t (bit placed) value r) (event t r .read)) ≡ (not b || eqb (value (location t r)) (event t r .read))
-      go true h = rw (none-forwards h e) refl
+      go : (b : Bool) → reads t r ≡ b → cond b (readsGood t (bit placed) now r) (now r) ≡ now r
+      go true h = rw (h, none-forwards h e) refl
       go false h = refl
 
   -- Some is missing: r reads, and the highest of them is forwarded.
@@ -90,7 +104,7 @@ module _ (t : Table) (room : t .count ≤ capacity) (placed r : ℕ) where
     abbrev w : ℕ
     w = highest missing
 
-    reader : reads t r ≡ true
+    pub reader : reads t r ≡ true
     unfolding ownWriter
     reader = is-true _ (λ h. n (missing-is ∙ mask-none late (t .count) (λ k. rw h refl)))
 
@@ -118,9 +132,10 @@ module _ (t : Table) (room : t .count ≤ capacity) (placed r : ℕ) where
         (forward-needed t (bit placed) w w-counted (w-forwards .1) ∙ within-mask t placed (needed t w))
 
     -- and it writes the stated value
-    pub stated-some : (value : ℕ → ℕ) → r < t .count → readsStated t (bit placed) value r ≡ bit (maskBy t (right t w)) r
-    unfolding readsStated valueNow right here maskBy
-    stated-some value l =
+    pub good-some : (now : ℕ → Bool) → r < t .count →
+        cond (reads t r) (readsGood t (bit placed) now r) (now r) ≡ bit (maskBy t (right t w)) r
+    unfolding readsGood right here maskBy
+    good-some now l =
         let o = own-parts t r w (w-forwards .0) in
         rw (reader, forwarder-w, lt-ltb w (t .count) w-counted)
         (sym (mask-at (right t w) (t .count) r l ∙ rw (o .0, o .1, reader) refl))

@@ -1,9 +1,9 @@
 -- What the test of an order reads in place of the table: for each event masks of others. A row that says nothing of an event, as
 -- that of the own writers of one that doesn't read, is empty, so that no kind need be asked.
 use Prim.Native.Nat.{ℕ}
-use mathlib.Core.Bool.{Bool, not, _&&_, _||_}
+use mathlib.Core.Bool.{Bool, cond, not, _&&_, _||_}
 use lib.ListN.{getD}
-use lib.Dec.{eqb}
+use lib.Dec.{eqb, ltb}
 use Rattle.lists.specs.Below.{below, some}
 use Rattle.lists.specs.Lists.{keep}
 use Rattle.masks.specs.Bit.{bit}
@@ -11,7 +11,7 @@ use Rattle.masks.specs.MaskOf.{maskOf}
 use Rattle.table.specs.declared.Table.{Table}
 use Rattle.table.specs.Events.{event, kind, hart, location, reads, writes, sameLocation, paired, store}
 use Rattle.model.specs.Returns.{initialValue}
-use Rattle.placing.specs.Guards.{own, depends, rereads, within}
+use Rattle.placing.specs.Guards.{own, depends, rereads, within, forwarder}
 
 -- the mask of the events that pass
 unfoldable pub maskBy : Table → (ℕ → Bool) → ℕ
@@ -54,6 +54,12 @@ right t w r = here t w r && eqb (event t w .written) (event t r .read)
 -- good: r doesn't read, or states the value at its location; value: what is at each location
 unfoldable pub good : Table → (ℕ → ℕ) → ℕ → Bool
 good t value r = not (reads t r) || eqb (value (location t r)) (event t r .read)
+
+-- if e reads, it returns its stated value: what its forwarder wrote, else what is at its location, by the good
+unfoldable pub readsGood : Table → (placed now : ℕ → Bool) → ℕ → Bool
+readsGood t placed now e =
+    not (reads t e)
+    || cond (ltb (forwarder t placed e) (t .count)) (eqb (event t (forwarder t placed e) .written) (event t e .read)) (now e)
 
 -- peers: another writer to the location that w writes
 unfoldable pub peers : Table → ℕ → ℕ → Bool

@@ -31,6 +31,17 @@ use Rattle.order_test.specs.Testing.{Judges, Fitting}
 use Rattle.order_test.proofs.TellLaws.{mask-is, mask-bit}
 use Rattle.order_test.proofs.PassLaws.{Always, entry-is, entry-event}
 
+-- some stated location that nothing writes isn't met
+pub unmet-mask : (facts : List (List ℕ)) (t : Table) → Facts t facts →
+    some (t .locations) (unmet t) ≡ not (eqb (mask facts setRow unmetWord) 0)
+unmet-mask facts t f =
+    some-same (t .locations) (unmet t) (bit locations) (λ x l. sym (mask-at (unmet t) (t .locations) x l))
+    ∙ none-set (t .locations) locations (mask-below-lt (unmet t) (t .locations) (t .locations) (omega arith))
+    ∙ ap (λ (m : ℕ). not (eqb m 0)) (sym (f .unmet))
+  where
+    locations : ℕ
+    locations = maskOf (keep (unmet t) (below (t .locations)))
+
 module _ (facts : List (List ℕ)) (order : List ℕ) (len : ℕ) where
   abbrev gmo : List ℕ
   gmo = take len order
@@ -46,20 +57,10 @@ module _ (facts : List (List ℕ)) (order : List ℕ) (len : ℕ) where
       × Always facts order len (λ t. (w : ℕ) → w < t .count → bit left w ≡ spoils t (drop i gmo) w)
       × Always facts order len (λ t. finalValues t gmo ≡ not (some i (spoilsAt t)))
 
-  -- some stated location that nothing writes isn't met
-  unmet-mask : (t : Table) → Facts t facts → some (t .locations) (unmet t) ≡ not (eqb (mask facts setRow unmetWord) 0)
-  unmet-mask t f =
-      some-same (t .locations) (unmet t) (bit locations) (λ x l. sym (mask-at (unmet t) (t .locations) x l))
-      ∙ none-set (t .locations) locations (mask-below-lt (unmet t) (t .locations) (t .locations) (omega arith))
-      ∙ ap (λ (m : ℕ). not (eqb m 0)) (sym (f .unmet))
-    where
-      locations : ℕ
-      locations = maskOf (keep (unmet t) (below (t .locations)))
-
   pub end-unmet : (mask facts setRow unmetWord ≡ 0 → ⊥) → Judges facts gmo finalValues false
   end-unmet n t f o c =
       sym (final-entries (clean-kept (f .table) o c)
-      ∙ ap (λ (b : Bool). not b && not (some (length gmo) (spoilsAt t))) (unmet-mask t f ∙ ap not (ne-eqb _ 0 n)))
+      ∙ ap (λ (b : Bool). not b && not (some (length gmo) (spoilsAt t))) (unmet-mask facts t f ∙ ap not (ne-eqb _ 0 n)))
 
   module _ (fit : Fitting order len) where
     long : length gmo ≡ len
@@ -75,7 +76,7 @@ module _ (facts : List (List ℕ)) (order : List ℕ) (len : ℕ) where
       λ t f o c.
           final-entries (clean-kept (f .table) o c)
           ∙ ap₂ (λ (b : Bool) (n : ℕ). not b && not (some n (spoilsAt t)))
-          (unmet-mask t f ∙ ap (λ (m : ℕ). not (eqb m 0)) z) long,
+          (unmet-mask facts t f ∙ ap (λ (m : ℕ). not (eqb m 0)) z) long,
     )
 
     -- A turn: entry i is the next towards the front.

@@ -1,8 +1,8 @@
 -- What the masks of an event tell of each table that has these facts.
 use Prim.Native.Nat.{ℕ, _<_, _≤_}
 use native.Mathlib.Omega.{arith}
-use mathlib.Core.Path.{_≡_, sym, ap, ap₂, subst, _∙_}
-use mathlib.Core.Bool.{Bool, true, false, not, _&&_, _||_, and-true}
+use mathlib.Core.Path.{_≡_, refl, sym, ap, ap₂, subst, _∙_}
+use mathlib.Core.Bool.{Bool, true, false, cond, not, _&&_, _||_, and-true}
 use mathlib.Core.List.{List}
 use lib.ListN.{getD}
 use lib.Bits.{bitAnd, bitXor}
@@ -20,11 +20,11 @@ use Rattle.masks.proofs.BelowLaws.{mask-at}
 use Rattle.table.specs.declared.Table.{Table}
 use Rattle.table.specs.Events.{capacity, reads, writes}
 use Rattle.placing.specs.Guards.{forwarder, mayRead, mayWrite, mayPlace, readsStated}
-use Rattle.order_facts.specs.Facts.{maskBy, ownWriter, needed, opens, grounds, isOpen, guards, right, good}
-use Rattle.order_facts.proofs.ReadLaws.{none-forwards, read-none, stated-none, forwarder-w, w-counted, read-some, stated-some}
+use Rattle.order_facts.specs.Facts.{maskBy, ownWriter, needed, opens, grounds, isOpen, guards, right, good, readsGood}
+use Rattle.order_facts.proofs.ReadLaws.{stated-good, none-forwards, read-none, good-none, forwarder-w, w-counted, read-some, good-some}
 use Rattle.order_facts.proofs.WriteLaws.{bars, write-bars, open-mask}
 use Rattle.fact_rows.specs.FactRows.{row, mask, masksBy, Facts, ownRow, needsRow, windowRow, groundRow, guardRow, rightRow}
-use Rattle.order_test.specs.Testing.{Tells, TellsGood, openBy}
+use Rattle.order_test.specs.Testing.{Tells, TellsGood, returnsGood, openBy}
 
 module _ {t : Table} {facts : List (List ℕ)} (f : Facts t facts) where
   room : t .count ≤ capacity
@@ -51,11 +51,8 @@ module _ (facts : List (List ℕ)) (placed e : ℕ) where
   pub tell-read-none : (m : ℕ) → m ≡ missing → m ≡ 0 → Tells facts e (λ t. not (reads t e) || mayRead t (bit placed) e) true
   tell-read-none m q z t f l = sym (read-none t (room f) placed e (sym (missing-is t f l) ∙ sym q ∙ z))
 
-  pub tell-stated-none : (m now : ℕ) → m ≡ missing → m ≡ 0 →
-      TellsGood facts now e (λ t value. readsStated t (bit placed) value e) (bit now e)
-  tell-stated-none m now q z t f l value g =
-      sym (stated-none t (room f) placed e value (sym (missing-is t f l) ∙ sym q ∙ z)
-      ∙ sym (ap (λ (x : ℕ). bit x e) g ∙ mask-bit t (good t value) e l))
+  pub tell-good-none : (m now : ℕ) → m ≡ missing → m ≡ 0 → Tells facts e (λ t. returnsGood t placed now e) (bit now e)
+  tell-good-none m now q z t f l = sym (good-none t (room f) placed e (bit now) (sym (missing-is t f l) ∙ sym q ∙ z))
 
   -- nothing is forwarded to it
   pub tell-forwards-none : (m : ℕ) → m ≡ missing → m ≡ 0 → (t : Table) → Facts t facts → e < t .count → reads t e ≡ true →
@@ -92,15 +89,28 @@ module _ (facts : List (List ℕ)) (placed e : ℕ) where
         subst (λ (x : ℕ). x < t .count) (sym i) (w-counted t (room f) placed e s),
       )
 
-  pub tell-stated-some : (m w now : ℕ) → m ≡ missing → (m ≡ 0 → ⊥) → w ≡ highest m →
-      TellsGood facts now e (λ t value. readsStated t (bit placed) value e) (bit (mask facts rightRow w) e)
-  tell-stated-some m w now q n h t f l value g =
+  pub tell-good-some : (m w now : ℕ) → m ≡ missing → (m ≡ 0 → ⊥) → w ≡ highest m →
+      Tells facts e (λ t. returnsGood t placed now e) (bit (mask facts rightRow w) e)
+  tell-good-some m w now q n h t f l =
       let s = some-missing t f l m q n in
       let i = highest-is t f l m w q h in
       ap (λ (x : ℕ). bit x e)
       (mask-is f rightRow (right t) (f .right) w (subst (λ (x : ℕ). x < t .count) (sym i) (w-counted t (room f) placed e s))
       ∙ ap (λ (x : ℕ). maskBy t (right t x)) i)
-      ∙ sym (stated-some t (room f) placed e s value l)
+      ∙ sym (good-some t (room f) placed e s (bit now) l)
+
+  -- By the mask of the good it is the stated value that is returned.
+  pub tell-stated : {now : ℕ} {r : Bool} → Tells facts e (λ t. returnsGood t placed now e) r →
+      TellsGood facts now e (λ t value. readsStated t (bit placed) value e) r
+  unfolding readsGood good
+  tell-stated {now} h t f l value g =
+      h t f l ∙ go (reads t e) refl (ap (λ (x : ℕ). bit x e) g ∙ mask-bit t (good t value) e l)
+      ∙ sym (stated-good t (bit placed) value e)
+    where
+      go : (b : Bool) → reads t e ≡ b → bit now e ≡ good t value e →
+          cond b (readsGood t (bit placed) (bit now) e) (bit now e) ≡ readsGood t (bit placed) (good t value) e
+      go true i q = rw (q, i) refl
+      go false i q = rw (q, i) refl
 
   -- A window that is open, a guard that bars.
   tell-open : (v : ℕ) → Tells facts v (λ t. isOpen t (bit placed) v) (openBy facts placed v)

@@ -32,7 +32,7 @@ ghost use Rattle.model.specs.Axioms.{finalValues};
 ghost use Rattle.model.specs.Witness.{lawful, witness};
 ghost use Rattle.placing.specs.Guards.{mayRead, mayWrite, mayPlace, readsStated};
 ghost use Rattle.fact_rows.specs.FactRows.{mask, hereRow, rightRow};
-ghost use Rattle.order_test.specs.Testing.{Tells, TellsGood, Judges, Fitting, openBy};
+ghost use Rattle.order_test.specs.Testing.{Tells, TellsGood, Judges, Fitting, returnsGood, openBy};
 
 // `e` may be placed as a reader: all its own writers are, or what their latest needs before it is returned from.
 fn may_read(facts: &[[u32; CAPACITY]; ROWS], placed: u32, e: u8) -> bool
@@ -47,9 +47,10 @@ fn may_read(facts: &[[u32; CAPACITY]; ROWS], placed: u32, e: u8) -> bool
 }
 
 // If `e` reads, it returns its stated value: what its latest own writer wrote, or what is at its location, by the mask `good`.
+// What doesn't read is told by its bit there, which every mask of the good has.
 pub fn reads_stated(facts: &[[u32; CAPACITY]; ROWS], placed: u32, good: u32, e: u8) -> bool
     requires { ⌜ e < capacity ⌝ }
-    ensures { λ r. ⌜ TellsGood (now (facts .entry)) good e (λ t value. readsStated t (bit placed) value e) r ⌝ }
+    ensures { λ r. ⌜ Tells (now (facts .entry)) e (λ t. returnsGood t placed good e) r ⌝ }
 {
     let missing = less(facts[OWN][e as usize], placed);
     if missing == 0 {
@@ -85,7 +86,7 @@ fn may_write(facts: &[[u32; CAPACITY]; ROWS], placed: u32, e: u8) -> bool
 }
 
 // `e` may be placed.
-fn may_place(facts: &[[u32; CAPACITY]; ROWS], placed: u32, e: u8) -> bool
+pub fn may_place(facts: &[[u32; CAPACITY]; ROWS], placed: u32, e: u8) -> bool
     requires { ⌜ e < capacity ⌝ }
     ensures { λ r. ⌜ Tells (now (facts .entry)) e (λ t. mayPlace t (bit placed) e) r ⌝ }
 {

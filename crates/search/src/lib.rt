@@ -38,7 +38,7 @@ pub enum Reply {
 pub const ALLOWANCE: u64 = 1_000_000_000;
 
 // Copies the first len entries of the order to the front of the buffer.
-fn copy(order: &[u8; SLOTS], len: usize, out: &mut [u8])
+pub fn copy(order: &[u8; SLOTS], len: usize, out: &mut [u8])
     requires { ⌜ (length (now order) ≡ slots) × (len ≤ slots) × (len ≤ length (now out)) ⌝ }
     ensures { λ _. ⌜ now (out .exit) ≡ take len (now (order .entry)) ++ drop len (now (out .entry)) ⌝ }
 {

@@ -10,6 +10,7 @@ pub mod cases;
 pub mod chains;
 pub mod corner_texts;
 pub mod damage;
+pub mod decide_calls;
 pub mod decided;
 pub mod edition_two;
 pub mod kinds;

@@ -46,7 +46,7 @@ pub fn run(options: &Options, out: &mut Output) -> Result<Status, String> {
 
 /// The lines for one test.
 fn one(source: &Source, options: &Options, progress: &mut Progress, tally: &mut Tally) -> Result<Vec<String>, Error> {
-    let log = options.herd.then(|| herd::log(source, options.visit, progress)).transpose();
+    let log = options.herd.then(|| herd::log(source)).transpose();
     let decided = source.decide(options.visit, progress);
     progress.clear();
     let (log, decision) = (log?, decided?);
@@ -58,7 +58,7 @@ fn one(source: &Source, options: &Options, progress: &mut Progress, tally: &mut 
     let mut lines = vec![format!("{}: {}", source.name, words(source, &decision, expected))];
     if options.verbose {
         let noun = if decision.tables == 1 { "table" } else { "tables" };
-        lines.push(format!("    {} {noun}, {} prefixes visited", decision.tables, decision.visited));
+        lines.push(format!("    {} {noun}{}", decision.tables, visited(&decision)));
         if let Some(witness) = &decision.witness {
             lines.extend(picture::order(witness).iter().map(|line| format!("    {line}")));
         }
@@ -70,8 +70,8 @@ fn one(source: &Source, options: &Options, progress: &mut Progress, tally: &mut 
 pub fn words(source: &Source, decision: &Decision, expected: Option<Expected>) -> String {
     let mut words = decision.verdict.word().to_string();
     if decision.verdict == Verdict::Undecided {
-        let visited = decision.visited;
-        words.push_str(&format!(", {visited} prefixes visited (raise the bound by --visit, or ask for fewer events)"));
+        let visited = visited(decision);
+        words.push_str(&format!("{visited} (raise the bound by --visit, or ask for fewer events)"));
     }
     if let Kind::Litmus(test) = &source.kind {
         let notes = notes(test, decision);
@@ -83,6 +83,11 @@ pub fn words(source: &Source, decision: &Decision, expected: Option<Expected>) -
         words.push_str(&format!(", but expected to be {expected}"));
     }
     words
+}
+
+/// How many prefixes were visited, where that was done.
+pub fn visited(decision: &Decision) -> String {
+    decision.visited.map(|visited| format!(", {visited} prefixes visited")).unwrap_or_default()
 }
 
 /// What the verdict of a litmus test is about, where that isn't plain.

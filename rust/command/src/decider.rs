@@ -6,9 +6,9 @@ use crate::error::Error;
 use crate::litmus::{Expected, Test};
 use crate::progress::Progress;
 use crate::text::Text;
-use cogthunder::{returns, Answer, Refusal, Witnesses, EVENTS};
+use cogthunder::{decide, returns, Answer, Refusal, Witnesses, EVENTS};
 
-/// How many prefixes are visited for one test unless another bound is given.
+/// How many prefixes are visited for one text, or for the outcomes of one table, unless another bound is given.
 pub const MOST_VISITED: u64 = 100_000_000;
 
 /// How many one call visits, so that the progress can be shown between calls.
@@ -19,7 +19,7 @@ const ALLOWANCE: u64 = 1_000_000;
 pub enum Verdict {
     Allowed,
     Forbidden,
-    /// The bound was reached before.
+    /// Of a text: the bound was reached before.
     Undecided,
 }
 
@@ -36,7 +36,8 @@ pub struct Witness {
 #[derive(Clone, Debug)]
 pub struct Decision {
     pub verdict: Verdict,
-    pub visited: u64,
+    /// How many prefixes were visited, of a text; a table is decided without.
+    pub visited: Option<u64>,
     /// How many tables were asked about.
     pub tables: u64,
     /// The first table.
@@ -67,18 +68,15 @@ fn refused(refusal: Refusal) -> Error {
     Error::new(format!("the library declines the table, {refusal}"))
 }
 
-/// A walk over tables, up to a bound on the prefixes visited.
-pub struct Decider<'p> {
-    most: u64,
-    progress: &'p mut Progress,
+/// A walk over the tables of one test.
+pub struct Decider {
     decision: Decision,
 }
 
-impl<'p> Decider<'p> {
-    /// For one test.
-    pub fn new(most: u64, progress: &'p mut Progress) -> Decider<'p> {
-        let decision = Decision { verdict: Verdict::Forbidden, visited: 0, tables: 0, first: None, witness: None };
-        Decider { most, progress, decision }
+impl Decider {
+    pub fn new() -> Decider {
+        let decision = Decision { verdict: Verdict::Forbidden, visited: None, tables: 0, first: None, witness: None };
+        Decider { decision }
     }
 
     /// Decides a litmus test: it is allowed if one of its tables is.
@@ -96,10 +94,10 @@ impl<'p> Decider<'p> {
         Ok(self.decision)
     }
 
-    /// Decides a text, by the library's own search for texts.
-    pub fn text(mut self, text: &Text) -> Result<Decision, Error> {
-        let order = Witnesses::of_text(&text.bytes).map(|walk| self.walk(walk)).map_err(refused)?;
-        if let Some(order) = order {
+    /// Decides a text, by the library's own search for texts, up to a bound on the prefixes visited.
+    pub fn text(mut self, text: &Text, most: u64, progress: &mut Progress) -> Result<Decision, Error> {
+        let walk = Witnesses::of_text(&text.bytes).map_err(refused)?;
+        if let Some(order) = self.walk(walk, most, progress) {
             let (case, returned) = text.along(&order).map_err(refused)?;
             self.found(Witness { case, order, returned });
         }
@@ -109,7 +107,9 @@ impl<'p> Decider<'p> {
 
     fn table(&mut self, case: Case) -> Result<(), Refusal> {
         let test = case.table.test()?;
-        if let Some(order) = self.walk(Witnesses::pruned(&test)?) {
+        let mut order = [0; EVENTS];
+        if let cogthunder::Decision::Found { len } = decide(&test, &[], &mut order)? {
+            let order = order[..len].to_vec();
             let mut returned = [0; EVENTS];
             returns(&test, &order, &mut returned)?;
             let returned = returned[..case.texts.len()].to_vec();
@@ -120,18 +120,18 @@ impl<'p> Decider<'p> {
     }
 
     /// Goes on to the first witness, or to the end or the bound.
-    fn walk(&mut self, mut walk: Witnesses) -> Option<Vec<u8>> {
-        let before = self.decision.visited;
+    fn walk(&mut self, mut walk: Witnesses, most: u64, progress: &mut Progress) -> Option<Vec<u8>> {
+        self.decision.visited = Some(0);
         loop {
-            let left = self.most - self.decision.visited;
+            let left = most - walk.visited();
             if left == 0 {
                 self.decision.verdict = Verdict::Undecided;
                 return None;
             }
             walk = walk.allowance(left.min(ALLOWANCE));
             let answer = walk.step();
-            self.decision.visited = before + walk.visited();
-            self.progress.show(self.decision.visited);
+            self.decision.visited = Some(walk.visited());
+            progress.show(walk.visited());
             match answer {
                 Answer::Found { .. } => return Some(walk.start().to_vec()),
                 Answer::NoneLeft { .. } => return None,

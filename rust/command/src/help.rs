@@ -39,7 +39,8 @@ Sometimes, Always or Allowed.
   --model MODEL       rvwmo or rvtso: the model of litmus tests (rvwmo); a block states its own, and
                       must state this one; texts are of RVWMO, as is what a file expects
   --herd              each test in the form of herd7's log; witnesses are counted by states
-  --visit N           give up after N prefixes (100000000): the test is then undecided
+  --visit N           give up on a text after N prefixes (100000000): it is then undecided, which
+                      litmus tests and blocks never are
 
 Each SC is taken to have succeeded. Values go up to 65535; a test has up to 4 harts, 8 locations
 and 30 events, and all its accesses have one width.
@@ -61,7 +62,7 @@ load returns from. Where several choices of values meet the condition, one table
   --dot               the same for graphviz
   -o, --output OUT    a file to write, in the place of standard output
   --model MODEL       rvwmo or rvtso: the model of litmus tests (rvwmo), and what a block must state
-  --visit N           give up after N prefixes (100000000): the test is then undecided
+  --visit N           give up on a text after N prefixes (100000000): it is then undecided
 
 example: cogthunder show samples/litmus/PPOCA.litmus
          cogthunder show --svg samples/litmus/PPOCA.litmus -o PPOCA.svg
@@ -84,7 +85,7 @@ told together; of more than 64 ways only their number is told. Each step of a ch
   po     a read sees the earlier writes of its own hart
 
   --model MODEL       rvwmo or rvtso: the model of litmus tests (rvwmo), and what a block must state
-  --visit N           give up after N prefixes (100000000): the test is then undecided
+  --visit N           give up on a text after N prefixes (100000000): it is then undecided
 
 example: cogthunder explain samples/litmus/MP+fence.rw.rws.litmus
 ";
@@ -168,7 +169,7 @@ test, each set of fences is tried on all its tables.
                       `show` gives them; this may be said up to eight times
   -o, --output OUT    a file to write: the test with these fences, in the form that it has
   --model MODEL       rvwmo or rvtso: the model of litmus tests (rvwmo), and what a block must state
-  --visit N           give up on a set of fences after N prefixes (100000000)
+  --visit N           of one table: give up on a set of fences after N prefixes (100000000)
 
 Exit status: 0 if the outcome is forbidden, with some fences or as it is; 1 if fences don't help, or
 if that isn't decided; 2 if a file can't be read or written.
@@ -185,7 +186,7 @@ by verdict and name, and for each test its columns, its picture, and what `expla
 
   -o, --output OUT    a file to write, in the place of standard output
   --model MODEL       rvwmo or rvtso: the model of litmus tests (rvwmo), and what a block must state
-  --visit N           give up on a test after N prefixes (100000000): it is then undecided
+  --visit N           give up on a text after N prefixes (100000000): it is then undecided
 
 Exit status as of decide: 1 if a verdict isn't what its file expects, 2 if a file can't be read.
 

@@ -5,7 +5,6 @@ use crate::choices::{Choice, Choices};
 use crate::decider::{Decider, Verdict};
 use crate::error::Error;
 use crate::litmus::{place_words, value_words, words, Place, Quantifier, Test};
-use crate::progress::Progress;
 use crate::source::{Kind, Source};
 use crate::value::Value;
 use std::collections::btree_map::{BTreeMap, Entry};
@@ -14,11 +13,11 @@ use std::collections::btree_map::{BTreeMap, Entry};
 type States = BTreeMap<String, bool>;
 
 /// The log of one test. Witnesses are counted by states, and each SC has succeeded.
-pub fn log(source: &Source, most: u64, progress: &mut Progress) -> Result<Vec<String>, Error> {
+pub fn log(source: &Source) -> Result<Vec<String>, Error> {
     let Kind::Litmus(test) = &source.kind else {
         return Err(Error::new("--herd takes litmus tests only, since a block names no registers"));
     };
-    let states = states(test, most, progress).map_err(|error| error.or_line(test.question.line))?;
+    let states = states(test).map_err(|error| error.or_line(test.question.line))?;
     let positive = states.values().filter(|&&holds| holds).count();
     let negative = states.len() - positive;
     let (kind, is_met) = match test.question.quantifier {
@@ -51,19 +50,15 @@ fn bracketed(condition: String) -> String {
 }
 
 /// All states that some order gives.
-fn states(test: &Test, most: u64, progress: &mut Progress) -> Result<States, Error> {
+fn states(test: &Test) -> Result<States, Error> {
     let mut observed = test.question.observed();
     observed.sort_by_key(Place::rank);
     let mut states = States::new();
     Choices::all(test)?.visit(&mut |choice| {
         if let Entry::Vacant(state) = states.entry(state(test, &choice, &observed)) {
-            match Decider::new(most, progress).case(Case::of(test, &choice)?)?.verdict {
-                Verdict::Forbidden => {}
-                Verdict::Undecided => return Err(Error::new("a state is undecided: raise the bound by --visit")),
-                Verdict::Allowed => {
-                    let holds = test.question.condition.holds(&|place| Some(value(&choice, place)));
-                    state.insert(holds == Some(true));
-                }
+            if Decider::new().case(Case::of(test, &choice)?)?.verdict == Verdict::Allowed {
+                let holds = test.question.condition.holds(&|place| Some(value(&choice, place)));
+                state.insert(holds == Some(true));
             }
         }
         Ok(true)

@@ -66,7 +66,7 @@ fn run(mut table: Table) -> (Source, Decision) {
     let case = Case::of_table(table.clone());
     let source = Source { name: "random".to_string(), kind: SourceKind::Block(Box::new(table)) };
     let witness = Some(Witness { case: case.clone(), order, returned });
-    (source, Decision { verdict: Verdict::Allowed, visited: 0, tables: 1, first: Some(case), witness })
+    (source, Decision { verdict: Verdict::Allowed, visited: None, tables: 1, first: Some(case), witness })
 }
 
 #[test]

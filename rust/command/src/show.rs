@@ -54,7 +54,7 @@ pub fn head(source: &Source, decision: &Decision) -> Vec<String> {
     }
     lines.extend(question(source));
     let verdict = decide::words(source, decision, source.expected());
-    lines.push(format!("{verdict}, {} prefixes visited", decision.visited));
+    lines.push(verdict + &decide::visited(decision));
     lines
 }
 

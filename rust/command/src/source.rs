@@ -28,14 +28,14 @@ pub enum Kind {
 }
 
 impl Source {
-    /// Asks the library about the test.
+    /// Asks the library about the test. A text is undecided where more prefixes than the bound would be visited.
     pub fn decide(&self, most: u64, progress: &mut Progress) -> Result<Decision, Error> {
         progress.task(&self.name);
-        let decider = Decider::new(most, progress);
+        let decider = Decider::new();
         match &self.kind {
             Kind::Litmus(test) => decider.litmus(test).map_err(|error| error.or_line(test.question.line)),
             Kind::Block(table) => decider.case(Case::of_table((**table).clone())),
-            Kind::Text(text) => decider.text(text),
+            Kind::Text(text) => decider.text(text, most, progress),
         }
     }
 

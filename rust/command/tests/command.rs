@@ -2,6 +2,7 @@
 
 mod common;
 
+use cogthunder::Table;
 use common::{cogthunder, fed, folder, printed, repository, run, sample};
 
 #[test]
@@ -37,7 +38,7 @@ fn a_witness_is_shown_on_demand() {
     let (out, _, _) = run(&["decide", "-v", &sample("C1")]);
     let lines = [
         "C1: allowed",
-        "    1 table, 17 prefixes visited",
+        "    1 table",
         "    (1) P0 sw t1, 0(s1)  W y=1",
         "    (2) P1 lw a2, 0(s1)  R y=1 from (1)",
         "    (3) P1 lw a3, 0(s0)  R x=0 initially",
@@ -48,12 +49,36 @@ fn a_witness_is_shown_on_demand() {
     assert_eq!(out, lines.join("\n"));
 }
 
+/// Four harts store to their locations and load all four, in up to 20 events; with more than 10^18 clean orders.
+fn free_accesses(last: u16) -> Vec<u8> {
+    let mut table = Table::new(4, 4);
+    for hart in 0..4 {
+        table.store(hart, hart, 1);
+        for location in 0..4 {
+            table.load(hart, location, if (hart, location) == (3, 3) { last } else { (location == hart).into() });
+        }
+    }
+    table.test().expect("the table is good")
+}
+
 #[test]
-fn a_bound_leaves_a_test_undecided() {
-    let (out, _, status) = run(&["decide", "--visit", "16", &repository("samples/C1.block")]);
-    assert!(out.starts_with("C1.block: undecided, 16 prefixes visited (raise the bound by --visit"), "{out}");
+fn only_a_text_can_be_undecided() {
+    let text = repository("samples/text/MP.text");
+    let (out, _, status) = run(&["decide", "--visit", "26", &text]);
+    let undecided = "MP.text: undecided, 26 prefixes visited (raise the bound by --visit, or ask for fewer events)\n";
+    assert!(out.starts_with(undecided), "{out}");
     assert_eq!(status, 0);
-    assert_eq!(run(&["decide", "--visit", "16", &sample("C1")]).2, 1);
+    assert!(run(&["decide", "--visit", "27", &text]).0.starts_with("MP.text: allowed\n"));
+    for file in [sample("C1"), repository("samples/C1.block")] {
+        let (out, _, status) = run(&["decide", "--visit", "0", &file]);
+        assert!(out.contains(": allowed\n") && status == 0, "{out}");
+    }
+    let file = folder("many-orders").join("free.block").to_str().unwrap().to_string();
+    for (last, verdict) in [(1, "allowed"), (0, "forbidden"), (9, "forbidden")] {
+        std::fs::write(&file, free_accesses(last)).unwrap();
+        let (out, _, _) = run(&["decide", &file]);
+        assert!(out.starts_with(&format!("free.block: {verdict}\n")), "{last}: {out}");
+    }
 }
 
 #[test]

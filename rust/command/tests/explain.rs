@@ -12,7 +12,8 @@ fn why(file: &str) -> Vec<String> {
 fn why_of(words: &[&str]) -> Vec<String> {
     let (out, err, status) = run(words);
     assert_eq!((err.as_str(), status), ("", 0), "{words:?}");
-    let lines = out.lines().skip_while(|line| !line.contains("prefixes visited")).skip(1);
+    let is_verdict = |line: &str| line.starts_with("allowed") || line.starts_with("forbidden");
+    let lines = out.lines().skip_while(|line| !is_verdict(line)).skip(1);
     lines.map(str::to_string).collect()
 }
 

@@ -1,5 +1,5 @@
 use mathlib.Core.Path.{_∙_}
-use Rattle.order_test.proofs.TellLaws.{tell-stated-none, tell-stated-some}
+use Rattle.order_test.proofs.TellLaws.{tell-good-none, tell-good-some}
 use borrow.Author.Needs.{needs}
 use Rattle.order_test.proofs.reads_stated.Statement.{statement}
 use Rattle.order_test.proofs.reads_stated.Tie as tie
@@ -20,9 +20,9 @@ has-requires : tie.Need-has-requires
 has-requires c κs = search needs
 
 returns : tie.Need-returns
-returns c t f l value g =
+returns c t f l =
     c .has .ensures
-    ∙ tell-stated-none _ _ _ _ _ (c .before .before .less .ensures) (c .before .if1 .taken) t f l value g
+    ∙ tell-good-none _ _ _ _ _ (c .before .before .less .ensures) (c .before .if1 .taken) t f l
 
 highest-set-requires : tie.Need-highest-set-requires
 highest-set-requires c κs = search needs
@@ -43,10 +43,10 @@ has-requires-2 : tie.Need-has-requires-2
 has-requires-2 c κs = search needs
 
 returns-2 : tie.Need-returns-2
-returns-2 c t f l value g =
+returns-2 c t f l =
     c .has2 .ensures
-    ∙ tell-stated-some _ _ _ _ _ _ (c .before .before .before .before .less .ensures)
-    (c .before .before .before .if1 .left) (c .before .before .highest-set .ensures) t f l value g
+    ∙ tell-good-some _ _ _ _ _ _ (c .before .before .before .before .less .ensures)
+    (c .before .before .before .if1 .left) (c .before .before .highest-set .ensures) t f l
 
 pub reads-stated-spec : {M : Type 1} → statement M
 reads-stated-spec =

@@ -1,4 +1,5 @@
 use mathlib.Core.Path.{refl, sym, _∙_}
+use Rattle.order_test.proofs.TellLaws.{tell-stated}
 use borrow.Author.Needs.{needs}
 use Rattle.witness_walk.proofs.enters.Statement.{statement}
 use Rattle.witness_walk.proofs.enters.Tie as tie
@@ -13,7 +14,7 @@ reads-stated-requires c κs = search needs
 
 -- src/lib.rt:59:1
 returns : tie.Need-returns
-returns c = rw (sym (c .before .before .has .ensures) ∙ c .before .if1 .taken) (c .reads-stated .ensures)
+returns c = rw (sym (c .before .before .has .ensures) ∙ c .before .if1 .taken) (tell-stated _ _ _ (c .reads-stated .ensures))
 
 -- src/lib.rt:59:1
 returns-2 : tie.Need-returns-2

@@ -4,13 +4,12 @@ use super::{asked, before_fences, chosen, empty_fences, own_fences, Advised, Fin
 use crate::arguments::Options;
 use crate::case::Case;
 use crate::choices::Choices;
-use crate::decider::Verdict;
+use crate::decider::{Decider, Verdict};
 use crate::error::Error;
 use crate::fencing::{gaps, place_words, FULL};
 use crate::litmus::edit::{self, Place};
 use crate::litmus::{self, Action, Expected, Test};
-use crate::progress::Progress;
-use crate::source::{Kind, Source};
+use crate::source::Source;
 use cogthunder::Table;
 use std::collections::BTreeMap;
 
@@ -29,7 +28,7 @@ pub fn advised(source: &Source, text: &str, test: &Test, options: &Options) -> R
             let is_fence = |place: &Place| *place == instructions[usize::from(fence)];
             fences.iter().position(is_fence).expect("it is one of them")
         })?,
-        _ => tried(source, &opened, &fences, options)?,
+        _ => tried(&opened, &fences)?,
     };
     let of = |set: &[usize], places: &[Place]| set.iter().map(|&place| places[place]).collect::<Vec<Place>>();
     let mended = match &finding {
@@ -111,21 +110,15 @@ fn tables(test: &Test, fences: &[Place], is_own: bool) -> Result<(Vec<String>, V
 }
 
 /// Tries sets of fences in the order of the library's advice: with a set the outcome is forbidden if every table is.
-fn tried(source: &Source, opened: &Test, fences: &[Place], options: &Options) -> Result<Finding, Error> {
-    let mut progress = Progress::new();
+fn tried(opened: &Test, fences: &[Place]) -> Result<Finding, Error> {
     for set in sets(fences.len()) {
         let mut test = opened.clone();
         for &place in &set {
             let (hart, number) = fences[place];
             test.harts[hart].program[number].action = Action::Fence { flags: FULL };
         }
-        let filled = Source { name: source.name.clone(), kind: Kind::Litmus(Box::new(test)) };
-        let decided = filled.decide(options.visit, &mut progress);
-        progress.clear();
-        match decided?.verdict {
-            Verdict::Allowed => {}
-            Verdict::Forbidden => return Ok(Finding::Forbidden(set)),
-            Verdict::Undecided => return Ok(Finding::Undecided(set)),
+        if Decider::new().litmus(&test)?.verdict == Verdict::Forbidden {
+            return Ok(Finding::Forbidden(set));
         }
     }
     Ok(Finding::NoHelp)
