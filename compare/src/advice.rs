@@ -5,7 +5,7 @@ use crate::cases::{any_allowance, any_shape, any_test, table_with_outcome, Calls
 use crate::comparison::{Comparison, Difference};
 use oracle::advice::MOST_EMPTY_FENCES;
 use oracle::encode::encode_fitting;
-use oracle::generate::advice_tables::{between_neighbours, fenced_tests, with_empty_fences};
+use oracle::generate::advice_tables::{between_neighbours, fenced_tests, with_clear_fences};
 use oracle::generate::prng::Prng;
 use oracle::layout::MOST_EVENTS;
 use oracle::search::{Answer, Engine, MAX_ALLOWANCE};
@@ -16,7 +16,7 @@ const FEW_EVENTS: usize = 5;
 /// Prefixes visited of a table of any size.
 const FEW_PREFIXES: usize = 60;
 
-/// Advice on a small table, or on a well-known test, with empty fences between neighbours or anywhere.
+/// Advice on a small table, or on a well-known test, with clear fences between neighbours or anywhere.
 pub fn advice(prng: &mut Prng, comparison: &mut Comparison) -> Result<(), Box<Difference>> {
     let events = 1 + prng.below(FEW_EVENTS);
     let bare = if prng.one_in(4) { prng.pick(&fenced_tests()).1.clone() } else { table_with_outcome(prng, events) };
@@ -56,21 +56,21 @@ fn with_some_fences(prng: &mut Prng, table: &Table) -> Table {
     let room = MOST_EVENTS - table.events.len();
     let (few, any) = (prng.below(4), prng.below(MOST_EMPTY_FENCES + 2));
     let count = *prng.pick(&[few, few, any]);
-    with_empty_fences(prng, table, count.min(room))
+    with_clear_fences(prng, table, count.min(room))
 }
 
 #[cfg(test)]
 mod tests {
     use super::*;
-    use oracle::advice::empty_fences;
+    use oracle::advice::clear_fences;
 
     #[test]
-    fn tables_have_any_number_of_empty_fences() {
+    fn tables_have_any_number_of_clear_fences() {
         let mut prng = Prng::new(1);
         let counts: Vec<usize> = (0..500)
             .map(|_| {
                 let bare = table_with_outcome(&mut prng, FEW_EVENTS);
-                empty_fences(&with_some_fences(&mut prng, &bare)).len()
+                clear_fences(&with_some_fences(&mut prng, &bare)).len()
             })
             .collect();
         for count in 0..=MOST_EMPTY_FENCES + 1 {

@@ -1,4 +1,4 @@
-//! Advice on a test: which of its empty fences have to order everything for its outcome to be
+//! Advice on a test: which of its clear fences have to order everything for its outcome to be
 //! forbidden.
 
 use crate::layout::MOST_EVENTS;
@@ -9,7 +9,7 @@ use crate::table::{read, refuse_if, Event, Kind, Line, Refusal, Table, ALL_FLAGS
 /// "up to eight ordinary fences with all bits clear; more is refusal 22"
 pub const MOST_EMPTY_FENCES: usize = 8;
 
-/// A set of empty fences as its ascending list of event numbers.
+/// A set of clear fences as its ascending list of event numbers.
 pub type Fences = Vec<usize>;
 
 #[derive(Clone, PartialEq, Eq, Debug)]
@@ -20,12 +20,12 @@ pub enum Advice {
 }
 
 /// "an ordinary fence with all bits clear"
-pub fn is_empty_fence(event: &Event) -> bool {
+pub fn is_clear_fence(event: &Event) -> bool {
     event.kind == Kind::Fence && event.flags == 0
 }
 
-pub fn empty_fences(table: &Table) -> Fences {
-    (0..table.events.len()).filter(|&e| is_empty_fence(&table.events[e])).collect()
+pub fn clear_fences(table: &Table) -> Fences {
+    (0..table.events.len()).filter(|&e| is_clear_fence(&table.events[e])).collect()
 }
 
 /// "the empty set first, then by size, equal sizes by their ascending lists of event numbers,
@@ -61,7 +61,7 @@ fn searched(table: &Table, allowance: u64) -> Answer {
 /// and is the last one here.
 pub fn tried(table: &Table, allowance: u64) -> Vec<(Fences, Answer)> {
     let mut tried = Vec::new();
-    for set in sets_of(&empty_fences(table)) {
+    for set in sets_of(&clear_fences(table)) {
         let answer = searched(&filled(table, &set), allowance);
         let decides = !matches!(answer, Answer::Found { .. });
         tried.push((set, answer));
@@ -86,7 +86,7 @@ fn decided(tried: Vec<(Fences, Answer)>) -> Advice {
 /// "refusal 22, after the table's own checks and before 17"
 pub fn advise(test: &[u8], allowance: u64) -> Result<Advice, Refusal> {
     let table = read(test)?;
-    refuse_if(empty_fences(&table).len() > MOST_EMPTY_FENCES, Line::EmptyFences)?;
+    refuse_if(clear_fences(&table).len() > MOST_EMPTY_FENCES, Line::EmptyFences)?;
     refuse_if(allowance > MAX_ALLOWANCE, Line::Allowance)?;
     Ok(decided(tried(&table, allowance)))
 }

@@ -242,7 +242,7 @@ pub enum Advice {
     Advised(Vec<u8>),
     /// With these fences full the allowance is spent; with each set before this one the outcome is allowed.
     Undecided(Vec<u8>),
-    /// The outcome is allowed, whichever of the empty fences are full.
+    /// The outcome is allowed, whichever of the clear fences are full.
     NoHelp,
 }
 

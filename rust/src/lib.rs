@@ -102,7 +102,7 @@ pub const VALUES: usize = EVENTS + LOCATIONS;
 /// No call lists more outcomes than this.
 pub const OUTCOMES: usize = 64;
 
-/// A test may have at most this many empty fences where advice is asked for.
+/// A test may have at most this many clear fences where advice is asked for.
 pub const EMPTY_FENCES: usize = 8;
 
 /// The largest allowance of a search, and of a call for outcomes.

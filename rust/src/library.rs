@@ -613,7 +613,7 @@ fn listed(word: u64, outcomes: fn(u64) -> usize) -> Result<Listing, Refusal> {
     }
 }
 
-/// Which fences a test lacks: the first set of its empty fences, those that order nothing, with which no witness is left. A fence of
+/// Which fences a test lacks: the first set of its clear fences, those that order nothing, with which no witness is left. A fence of
 /// the set orders all accesses before it with all behind it. The empty set is tried first, then sets by their size, and those of
 /// one size by their lists of event numbers, compared entry by entry; each is searched as by [`search`], from the empty start and
 /// with the allowance given, and the first one for which no witness is found decides.
@@ -623,7 +623,7 @@ fn listed(word: u64, outcomes: fn(u64) -> usize) -> Result<Listing, Refusal> {
 /// ```
 /// use cogthunder::{advise, Accesses, Advice, Table, Witnesses};
 ///
-/// // Message passing, with an empty fence between the accesses of each hart.
+/// // Message passing, with a clear fence between the accesses of each hart.
 /// let mut table = Table::new(2, 2);
 /// table.store(0, 0, 1);
 /// let first = table.fence(0, Accesses::None, Accesses::None);
@@ -820,7 +820,7 @@ mod tests {
         assert_eq!(refusal(&block[1..], &[9], 9), Err(1));
     }
 
-    /// Message passing behind 20 fences that do nothing, so that it takes edition 2, with an empty fence between each hart's
+    /// Message passing behind 20 fences that do nothing, so that it takes edition 2, with a clear fence between each hart's
     /// accesses: events 21 and 24.
     fn fenced_message() -> Table {
         let mut table = Table::new(2, 2);

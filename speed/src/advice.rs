@@ -1,4 +1,4 @@
-//! Times advice on tables with eight empty fences: beside as many single searches of the proved library, and beside plain Rust.
+//! Times advice on tables with eight clear fences: beside as many single searches of the proved library, and beside plain Rust.
 
 use crate::facts::{Facts, Fence};
 use crate::plain::{search_facts, Answer};
@@ -141,7 +141,7 @@ pub fn run() {
         "{:<26}{:>11}{:>10}{:>10}{:>10}{:>10}{:>7}{:>10}{:>7}",
         "table", "answer", "searches", "visited", "proved", "singly", "ratio", "Rust", "ratio"
     );
-    for (title, table) in shapes::with_empty_fences() {
+    for (title, table) in shapes::with_clear_fences() {
         let (block, sets) = (table.encode(), tried(&table));
         let (advice, count) = agreed(&block, &sets);
         let calls = (VISITED_PER_RUN / count).max(1);
@@ -165,7 +165,7 @@ mod tests {
     use super::*;
     use oracle::advice::{mask_of, Advice as Other};
     use oracle::encode::encode;
-    use oracle::generate::advice_tables::with_empty_fences;
+    use oracle::generate::advice_tables::with_clear_fences;
     use oracle::generate::calls::small_table_in;
     use oracle::generate::prng::Prng;
     use oracle::table::Model;
@@ -186,7 +186,7 @@ mod tests {
         for _ in 0..TABLES {
             let bare = small_table_in(*prng.pick(&Model::ALL), &mut prng);
             let count = prng.below(10);
-            let block = encode(&with_empty_fences(&mut prng, &bare, count));
+            let block = encode(&with_clear_fences(&mut prng, &bare, count));
             for allowance in [3, 30, 100_000] {
                 let stated = oracle::advice::advise(&block, allowance).map(same);
                 let stated = stated.map_err(|r| Refusal { line: r.line as u8, record: r.record });
@@ -197,7 +197,7 @@ mod tests {
 
     #[test]
     fn the_tables_that_are_timed_have_eight_fences() {
-        for (title, table) in shapes::with_empty_fences() {
+        for (title, table) in shapes::with_clear_fences() {
             assert_eq!(Fence::empty_ones(&table).len(), MOST_FENCES, "{title}");
             agreed(&table.encode(), &tried(&table));
         }

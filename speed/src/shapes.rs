@@ -61,7 +61,7 @@ impl Builder {
         self
     }
 
-    /// Two events of one hart, and so many empty fences between them.
+    /// Two events of one hart, and so many clear fences between them.
     fn apart(mut self, first: Event, fences: usize, second: Event) -> Builder {
         self.events.push(first);
         self.events.extend((0..fences).map(|_| Event { flags: 0, ..fence(first.hart) }));
@@ -199,7 +199,7 @@ pub fn timed() -> Vec<(&'static str, Table)> {
     ]
 }
 
-/// Message passing, with four empty fences on each hart, and what the second one reads; its loads come last, or first.
+/// Message passing, with four clear fences on each hart, and what the second one reads; its loads come last, or first.
 fn message_apart(read: [u16; 2], loads_first: bool) -> Table {
     let (reader, writer) = if loads_first { (0, 1) } else { (1, 0) };
     let loads = |b: Builder| b.apart(load(reader, Y, read[0]), 4, load(reader, X, read[1]));
@@ -208,14 +208,14 @@ fn message_apart(read: [u16; 2], loads_first: bool) -> Table {
     if loads_first { stores(loads(b)) } else { loads(stores(b)) }.table()
 }
 
-/// A ring of four, with two empty fences on each hart, and what its loads read.
+/// A ring of four, with two clear fences on each hart, and what its loads read.
 fn ring_apart(read: u16) -> Table {
     ring(|b, h| b.apart(store(h, h, 1), 2, load(h, following(h), read))).table()
 }
 
-/// Tables with eight empty fences: those whose outcome the order of the program gives, however the fences are filled, of which
+/// Tables with eight clear fences: those whose outcome the order of the program gives, however the fences are filled, of which
 /// some come late in the list of prefixes; and those whose outcome two or four of the fences forbid.
-pub fn with_empty_fences() -> Vec<(&'static str, Table)> {
+pub fn with_clear_fences() -> Vec<(&'static str, Table)> {
     vec![
         ("MP, both seen", message_apart([1, 1], false)),
         ("MP, both seen late", message_apart([1, 1], true)),

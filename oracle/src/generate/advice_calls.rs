@@ -9,7 +9,7 @@ use super::edition_two::refused_by_each_line;
 use super::prng::Prng;
 use super::random::{any_table, wide_table};
 use super::unused::unused_cases;
-use crate::advice::{empty_fences, tried, MOST_EMPTY_FENCES};
+use crate::advice::{clear_fences, tried, MOST_EMPTY_FENCES};
 use crate::advice_calls::ADVISE;
 use crate::candidates::LEND;
 use crate::encode::{encode, encode_fitting, encode_in};
@@ -20,11 +20,11 @@ use crate::stream::push_frame;
 use crate::table::{Model, Table};
 
 const SEED: u64 = 13;
-/// Random tables of few events, for each model and each number of empty fences.
+/// Random tables of few events, for each model and each number of clear fences.
 const RANDOM_TABLES: usize = 8;
 /// Random chains of edition 2, for each model.
 const RANDOM_CHAINS: usize = 12;
-/// The chains have up to so many empty fences, for they may have many prefixes.
+/// The chains have up to so many clear fences, for they may have many prefixes.
 const FENCES_OF_CHAINS: usize = 3;
 /// Tables of any size, for each model, of which only the first prefixes are visited.
 const LARGE_TABLES: usize = 12;
@@ -104,16 +104,16 @@ fn visited_numbers(table: &Table) -> Vec<u64> {
     tried(table, MAX_ALLOWANCE).iter().map(|(_, answer)| visited(answer)).collect()
 }
 
-/// Message passing and random tables with so many empty fences. One more than is good is refused, so
+/// Message passing and random tables with so many clear fences. One more than is good is refused, so
 /// that any allowance does.
 fn numbers_of_fences(calls: &mut Calls, prng: &mut Prng, model: Model, count: usize) {
     let mut tables: Vec<Table> = counted(count);
     for _ in 0..RANDOM_TABLES {
         let mut bare = small_table_in(model, prng);
-        while !empty_fences(&bare).is_empty() {
+        while !clear_fences(&bare).is_empty() {
             bare = small_table_in(model, prng);
         }
-        tables.push(with_empty_fences(prng, &bare, count));
+        tables.push(with_clear_fences(prng, &bare, count));
     }
     for table in tables.into_iter().map(|table| table.in_model(model)) {
         if count <= MOST_EMPTY_FENCES {
@@ -131,14 +131,14 @@ fn refused(calls: &mut Calls, table: &Table) {
     }
 }
 
-/// Tables of many events, with empty fences as far as there is room.
+/// Tables of many events, with clear fences as far as there is room.
 fn chains(calls: &mut Calls, prng: &mut Prng, model: Model) {
     let random: Vec<Table> = (0..RANDOM_CHAINS).map(|_| chained_table(prng)).collect();
     let cases = chain_cases().into_iter().map(|(_, table)| table);
     for (number, bare) in cases.chain(random).enumerate() {
         let room = MOST_EVENTS - bare.events.len();
         let count = room.min(1 + number % FENCES_OF_CHAINS);
-        let table = with_empty_fences(prng, &bare, count).in_model(model);
+        let table = with_clear_fences(prng, &bare, count).in_model(model);
         every_way(calls, prng, &table);
     }
 }
@@ -146,7 +146,7 @@ fn chains(calls: &mut Calls, prng: &mut Prng, model: Model) {
 /// Small allowances on a table that may have many prefixes.
 fn first_prefixes(calls: &mut Calls, prng: &mut Prng, table: Table) {
     let room = MOST_EVENTS - table.events.len();
-    let table = with_empty_fences(prng, &table, room.min(MOST_EMPTY_FENCES / 2));
+    let table = with_clear_fences(prng, &table, room.min(MOST_EMPTY_FENCES / 2));
     calls.lend(&encode_fitting(&table));
     for allowance in [0, 1, 50, 400] {
         calls.advise(allowance);
@@ -164,7 +164,7 @@ fn in_edition_two(calls: &mut Calls, prng: &mut Prng, cases: &[Case]) {
     }
 }
 
-/// More empty fences than eight, up to as many as an edition has room for.
+/// More clear fences than eight, up to as many as an edition has room for.
 fn too_many_fences(calls: &mut Calls) {
     for edition in Edition::ALL {
         for count in [MOST_EMPTY_FENCES + 1, edition.max_events() - 1] {
@@ -177,7 +177,7 @@ fn too_many_fences(calls: &mut Calls) {
 }
 
 /// Tests that reading refuses: by each line, with allowances that 17 would refuse, and others; and
-/// with nine empty fences besides.
+/// with nine clear fences besides.
 fn refused_tests(calls: &mut Calls) {
     let mut wrong_check = base_block();
     wrong_check[CHECK_AT] ^= 1;
@@ -224,7 +224,7 @@ mod tests {
         Ok(calls)
     }
 
-    /// How often each line was given, each kind of answer by the number of empty fences, and each
+    /// How often each line was given, each kind of answer by the number of clear fences, and each
     /// edition and model; and undecided with a set that is neither the first nor the last.
     #[derive(Default)]
     struct Given {
@@ -243,7 +243,7 @@ mod tests {
                 Ok(advice) => advice,
             };
             let table = read(test).expect("it is good");
-            let fences = empty_fences(&table).len();
+            let fences = clear_fences(&table).len();
             let name = match &advice {
                 Advice::Advised(_) => "advised",
                 Advice::Undecided(_) => "undecided",

@@ -1,4 +1,4 @@
-//! Tables with empty fences: between the accesses of well-known tests, in numbers, beside other
+//! Tables with clear fences: between the accesses of well-known tests, in numbers, beside other
 //! fences, and where several sets of one size would do.
 
 use super::cases::Case;
@@ -16,7 +16,7 @@ fn with_event(table: &Table, place: usize, event: Event) -> Table {
 }
 
 /// Empty fences at random places of any harts.
-pub fn with_empty_fences(prng: &mut Prng, table: &Table, count: usize) -> Table {
+pub fn with_clear_fences(prng: &mut Prng, table: &Table, count: usize) -> Table {
     let mut fenced = table.clone();
     for _ in 0..count {
         let place = prng.below(fenced.events.len() + 1);
@@ -25,7 +25,7 @@ pub fn with_empty_fences(prng: &mut Prng, table: &Table, count: usize) -> Table 
     fenced
 }
 
-/// An empty fence behind each event that is followed by another one of its hart.
+/// A clear fence behind each event that is followed by another one of its hart.
 pub fn between_neighbours(table: &Table) -> Table {
     let mut fenced = table.clone();
     for event in (0..table.events.len()).rev() {
@@ -69,7 +69,7 @@ fn three_buffers() -> Table {
     harts(&[&part(0), &part(1), &part(2)])
 }
 
-/// Well-known tests, each with an empty fence between its neighbours.
+/// Well-known tests, each with a clear fence between its neighbours.
 pub fn fenced_tests() -> Vec<Case> {
     let load_buffering =
         harts(&[&[load(0, X, 1), store(0, Y, 1)], &[load(1, Y, 1), store(1, X, 1)]]);
@@ -112,7 +112,7 @@ fn message(first: &[Event], second: &[Event]) -> Table {
     harts(&[&[store(0, X, 1)], first, &[store(0, Y, 1), load(1, Y, 1)], second, &[load(1, X, 0)]])
 }
 
-/// Message passing with so many empty fences: between the stores, between the loads, some at each
+/// Message passing with so many clear fences: between the stores, between the loads, some at each
 /// place, and where they order nothing.
 pub fn counted(count: usize) -> Vec<Table> {
     let (first, second) = (vec![fence(0, 0); count], vec![fence(1, 0); count]);
@@ -183,7 +183,7 @@ pub fn ties() -> Vec<Case> {
 #[cfg(test)]
 mod tests {
     use super::*;
-    use crate::advice::{advise, empty_fences, Advice, MOST_EMPTY_FENCES};
+    use crate::advice::{advise, clear_fences, Advice, MOST_EMPTY_FENCES};
     use crate::encode::{encode, encode_fitting};
     use crate::search::MAX_ALLOWANCE;
     use crate::table::read;
@@ -210,7 +210,7 @@ mod tests {
         assert_eq!(between_neighbours(&c9_address()).events[7], load(1, X, 0).address_from(5));
         let message = between_neighbours(&c1());
         assert_eq!(message.events[..3], [store(0, X, 1), fence(0, 0), store(0, Y, 1)]);
-        assert_eq!(empty_fences(&message), [1, 4]);
+        assert_eq!(clear_fences(&message), [1, 4]);
     }
 
     #[test]
@@ -245,11 +245,11 @@ mod tests {
     }
 
     #[test]
-    fn empty_fences_are_put_in_as_many_as_asked_for() {
+    fn clear_fences_are_put_in_as_many_as_asked_for() {
         let mut prng = Prng::new(1);
         for count in 0..=MOST_EMPTY_FENCES + 1 {
-            let fenced = with_empty_fences(&mut prng, &c9_address(), count);
-            assert_eq!(empty_fences(&fenced).len(), count);
+            let fenced = with_clear_fences(&mut prng, &c9_address(), count);
+            assert_eq!(clear_fences(&fenced).len(), count);
             assert_eq!(read(&encode(&fenced)), Ok(fenced));
         }
     }

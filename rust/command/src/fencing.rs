@@ -9,7 +9,7 @@ use cogthunder::{Event, Table};
 pub const FULL: u8 = 15;
 
 /// Whether an event is a fence that orders nothing.
-pub fn is_empty_fence(event: &Event) -> bool {
+pub fn is_clear_fence(event: &Event) -> bool {
     event.kind == FENCE && event.flags == 0
 }
 
@@ -54,7 +54,7 @@ fn with_fence(table: &Table, before: u8, flags: u8) -> Table {
     fenced
 }
 
-/// The place of an empty fence, in words: its hart, and the accesses next to it. `number` says how an event is called, and where
+/// The place of a clear fence, in words: its hart, and the accesses next to it. `number` says how an event is called, and where
 /// instructions are events without operands their values are said too.
 pub fn place_words(case: &Case, fence: u8, number: &dyn Fn(u8) -> u8, with_values: bool) -> String {
     let event = |k: u8| &case.table.events[usize::from(k)];
@@ -104,7 +104,7 @@ mod tests {
         let kinds: Vec<u8> = fenced.events[..7].iter().map(|event| event.kind).collect();
         assert_eq!(kinds, [2, 6, 1, 6, 6, 2, 1]);
         assert_eq!((fenced.count, fenced.events[5].data), (7, 0b100));
-        let empty: Vec<usize> = (0..7).filter(|&k| is_empty_fence(&fenced.events[k])).collect();
+        let empty: Vec<usize> = (0..7).filter(|&k| is_clear_fence(&fenced.events[k])).collect();
         assert_eq!(empty, [1, 3]);
         assert!(fenced.test().is_ok());
     }

@@ -127,7 +127,7 @@ fn a_fence_is_put_behind_its_access_whatever_branches_follow() {
 }
 
 #[test]
-fn a_test_with_empty_fences_is_asked_about_those() {
+fn a_test_with_clear_fences_is_asked_about_those() {
     let rows = |first: &str, second: &str| {
         format!("sw x5,0(x6) | lw x8,0(x7) ;\n{first} | {second} ;\nsw x5,0(x7) | lw x9,0(x6) ;\nexists (1:x8=1 /\\ 1:x9=0)")
     };

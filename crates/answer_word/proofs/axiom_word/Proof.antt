@@ -7,41 +7,8 @@ use borrow.Author.Needs.{needs}
 use Rattle.answer_word.proofs.axiom_word.Statement.{statement}
 use Rattle.answer_word.proofs.axiom_word.Tie as tie
 
-enum-known-place : tie.Need-enum-known-place
-enum-known-place c = search needs
-
-lowest-requires : tie.Need-lowest-requires
-lowest-requires c κs = search needs
-
-upper-half-requires : tie.Need-upper-half-requires
-upper-half-requires c κs = search needs
-
 word-requires : tie.Need-word-requires
 word-requires c κs = c .upper-half .ensures .1
-
-enum-known-place-2 : tie.Need-enum-known-place-2
-enum-known-place-2 c = search needs
-
-word-requires-2 : tie.Need-word-requires-2
-word-requires-2 c κs = search needs
-
-enum-known-place-3 : tie.Need-enum-known-place-3
-enum-known-place-3 c = search needs
-
-word-requires-3 : tie.Need-word-requires-3
-word-requires-3 c κs = search needs
-
-enum-known-place-4 : tie.Need-enum-known-place-4
-enum-known-place-4 c = search needs
-
-word-requires-4 : tie.Need-word-requires-4
-word-requires-4 c κs = search needs
-
-enum-known-place-5 : tie.Need-enum-known-place-5
-enum-known-place-5 c = search needs
-
-word-requires-5 : tie.Need-word-requires-5
-word-requires-5 c κs = search needs
 
 returns : tie.Need-returns
 returns c =
@@ -64,18 +31,18 @@ pub axiom-word-spec : {M : Type 1} → statement M
 axiom-word-spec =
     tie.close
     (tie.spec
-    enum-known-place
-    lowest-requires
-    upper-half-requires
+    (λ c. search needs)
+    (λ c κs. search needs)
+    (λ c κs. search needs)
     word-requires
-    enum-known-place-2
-    word-requires-2
-    enum-known-place-3
-    word-requires-3
-    enum-known-place-4
-    word-requires-4
-    enum-known-place-5
-    word-requires-5
+    (λ c. search needs)
+    (λ c κs. search needs)
+    (λ c. search needs)
+    (λ c κs. search needs)
+    (λ c. search needs)
+    (λ c κs. search needs)
+    (λ c. search needs)
+    (λ c κs. search needs)
     returns
     returns-2
     returns-3

@@ -5,23 +5,14 @@ use borrow.Author.Needs.{needs}
 use Rattle.answer_word.proofs.ending_word.Statement.{statement}
 use Rattle.answer_word.proofs.ending_word.Tie as tie
 
-enum-known-ending : tie.Need-enum-known-ending
-enum-known-ending c = search needs
-
 cast-word : tie.Need-cast-word
 cast-word c = omega (arith, subst EndingFits (c .before .ending .given .1) (c .before .before .before .pre) .0)
 
 word-requires : tie.Need-word-requires
 word-requires c κs = subst EndingFits (c .before .ending .given .1) (c .before .before .before .pre) .1
 
-enum-known-ending-2 : tie.Need-enum-known-ending-2
-enum-known-ending-2 c = search needs
-
 word-requires-2 : tie.Need-word-requires-2
 word-requires-2 c κs = subst EndingFits (c .before .ending2 .given .1) (c .before .before .before .pre)
-
-enum-known-ending-3 : tie.Need-enum-known-ending-3
-enum-known-ending-3 c = search needs
 
 cast-word-2 : tie.Need-cast-word-2
 cast-word-2 c = omega (arith, subst EndingFits (c .before .ending3 .given .1) (c .before .before .before .pre) .0)
@@ -42,12 +33,12 @@ pub ending-word-spec : {M : Type 1} → statement M
 ending-word-spec =
     tie.close
     (tie.spec
-    enum-known-ending
+    (λ c. search needs)
     cast-word
     word-requires
-    enum-known-ending-2
+    (λ c. search needs)
     word-requires-2
-    enum-known-ending-3
+    (λ c. search needs)
     cast-word-2
     word-requires-3
     returns

@@ -6,12 +6,9 @@ use borrow.Author.Needs.{needs}
 use Rattle.answer_word.proofs.lowest.Statement.{statement}
 use Rattle.answer_word.proofs.lowest.Tie as tie
 
-lowest-rule-requires : tie.Need-lowest-rule-requires
-lowest-rule-requires c κs = search needs
-
 returns : tie.Need-returns
 unfolding lowestOf
 returns c = c .lowest-rule .ensures ∙ lowest-in (c .before .args .set) (omega arith)
 
 pub lowest-spec : {M : Type 1} → statement M
-lowest-spec = tie.close (tie.spec lowest-rule-requires returns)
+lowest-spec = tie.close (tie.spec (λ c κs. search needs) returns)

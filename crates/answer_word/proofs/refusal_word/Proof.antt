@@ -6,24 +6,6 @@ use borrow.Author.Needs.{needs}
 use Rattle.answer_word.proofs.refusal_word.Statement.{statement}
 use Rattle.answer_word.proofs.refusal_word.Tie as tie
 
-enum-told : tie.Need-enum-told
-enum-told c = search needs
-
-word-requires : tie.Need-word-requires
-word-requires c κs = search needs
-
-enum-known-refusal : tie.Need-enum-known-refusal
-enum-known-refusal c = search needs
-
-word-requires-2 : tie.Need-word-requires-2
-word-requires-2 c κs = search needs
-
-enum-known-refusal-2 : tie.Need-enum-known-refusal-2
-enum-known-refusal-2 c = search needs
-
-word-requires-3 : tie.Need-word-requires-3
-word-requires-3 c κs = search needs
-
 returns : tie.Need-returns
 returns c = c .word .ensures ∙ sym (ap (λ (r : Refusal). refusalWord (refusalOf r)) (c .before .enum-told .given .1))
 
@@ -37,12 +19,12 @@ pub refusal-word-spec : {M : Type 1} → statement M
 refusal-word-spec =
     tie.close
     (tie.spec
-    enum-told
-    word-requires
-    enum-known-refusal
-    word-requires-2
-    enum-known-refusal-2
-    word-requires-3
+    (λ c. search needs)
+    (λ c κs. search needs)
+    (λ c. search needs)
+    (λ c κs. search needs)
+    (λ c. search needs)
+    (λ c κs. search needs)
     returns
     returns-2
     returns-3)

@@ -4,14 +4,8 @@ use borrow.Author.Needs.{needs}
 use Rattle.answer_word.proofs.text_reply_word.Statement.{statement}
 use Rattle.answer_word.proofs.text_reply_word.Tie as tie
 
-enum-known-reply : tie.Need-enum-known-reply
-enum-known-reply c = search needs
-
 word-requires : tie.Need-word-requires
 word-requires c κs = subst TextGivenFits (c .before .reply .given .1) (c .before .before .before .pre)
-
-enum-known-reply-2 : tie.Need-enum-known-reply-2
-enum-known-reply-2 c = search needs
 
 reply-word-requires : tie.Need-reply-word-requires
 reply-word-requires c κs = subst TextGivenFits (c .before .reply2 .given .1) (c .before .before .before .pre)
@@ -19,16 +13,13 @@ reply-word-requires c κs = subst TextGivenFits (c .before .reply2 .given .1) (c
 returns : tie.Need-returns
 returns c = c .word .ensures ∙ sym (ap (textGivenWord) (c .before .before .reply .given .1))
 
-returns-2 : tie.Need-returns-2
-returns-2 c = search needs
-
 pub text-reply-word-spec : {M : Type 1} → statement M
 text-reply-word-spec =
     tie.close
     (tie.spec
-    enum-known-reply
+    (λ c. search needs)
     word-requires
-    enum-known-reply-2
+    (λ c. search needs)
     reply-word-requires
     returns
-    returns-2)
+    (λ c. search needs))

@@ -6,29 +6,14 @@ use borrow.Author.Needs.{needs}
 use Rattle.answers.proofs.determine.Statement.{statement}
 use Rattle.answers.proofs.determine.Tie as tie
 
-total-requires : tie.Need-total-requires
-total-requires c κs = search needs
-
 returns : tie.Need-returns
 returns c = determine-12 _ _ _ (sym (order-length-wrong _ _ _ (c .before .total .ensures)) ∙ ap not (ne-eqb _ _ (c .if1 .taken)))
-
-order-wrong-requires : tie.Need-order-wrong-requires
-order-wrong-requires c κs = search needs
 
 returns-2 : tie.Need-returns-2
 returns-2 c = (search (refused-13, needs), search (left-13, needs))
 
-cast-if3 : tie.Need-cast-if3
-cast-if3 c = search needs
-
 returns-3 : tie.Need-returns-3
 returns-3 c = determine-16 _ _ _ (sym (order-length-wrong _ _ _ (c .before .before .before .before .before .total .ensures)) ∙ ap not (eq-eqb _ _ (c .before .before .before .before .if1 .left))) (sym (c .before .before .before .order-wrong .ensures) ∙ c .before .before .if2 .left) (c .if3 .taken)
-
-determine-requires : tie.Need-determine-requires
-determine-requires c κs = search needs
-
-same-length : tie.Need-same-length
-same-length c = search needs
 
 returns-4 : tie.Need-returns-4
 returns-4 c = determine-none _ _ _ (sym (order-length-wrong _ _ _ (c .before .before .before .before .before .before .before .before .before .total .ensures)) ∙ ap not (eq-eqb _ _ (c .before .before .before .before .before .before .before .before .if1 .left))) (sym (c .before .before .before .before .before .before .before .order-wrong .ensures) ∙ c .before .before .before .before .before .before .if2 .left) (c .before .before .before .before .if3 .left) _ (c .before .before .determine .ensures)
@@ -37,12 +22,12 @@ pub determine-spec : {M : Type 1} → statement M
 determine-spec =
     tie.close
     (tie.spec
-    total-requires
+    (λ c κs. search needs)
     returns
-    order-wrong-requires
+    (λ c κs. search needs)
     returns-2
-    cast-if3
+    (λ c. search needs)
     returns-3
-    determine-requires
-    same-length
+    (λ c κs. search needs)
+    (λ c. search needs)
     returns-4)

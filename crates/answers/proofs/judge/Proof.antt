@@ -6,18 +6,9 @@ use borrow.Author.Needs.{needs}
 use Rattle.answers.proofs.judge.Statement.{statement}
 use Rattle.answers.proofs.judge.Tie as tie
 
-total-requires : tie.Need-total-requires
-total-requires c κs = search needs
-
-cast-if1 : tie.Need-cast-if1
-cast-if1 c = search needs
-
 returns : tie.Need-returns
 unfolding returnedLengthWrong
 returns c = judge-12 _ _ _ (rw (order-length-wrong _ _ _ (c .before .before .total .ensures)) at (c .if1 .taken))
-
-order-wrong-requires : tie.Need-order-wrong-requires
-order-wrong-requires c κs = search needs
 
 returns-2 : tie.Need-returns-2
 unfolding returnedLengthWrong
@@ -43,10 +34,10 @@ pub judge-spec : {M : Type 1} → statement M
 judge-spec =
     tie.close
     (tie.spec
-    total-requires
-    cast-if1
+    (λ c κs. search needs)
+    (λ c. search needs)
     returns
-    order-wrong-requires
+    (λ c κs. search needs)
     returns-2
     returned-wrong-requires
     returns-3

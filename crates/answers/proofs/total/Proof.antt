@@ -6,9 +6,6 @@ use borrow.Author.Needs.{needs}
 use Rattle.answers.proofs.total.Statement.{statement}
 use Rattle.answers.proofs.total.Tie as tie
 
-memory-mask-requires : tie.Need-memory-mask-requires
-memory-mask-requires c κs = search needs
-
 cast-result : tie.Need-cast-result
 cast-result c = omega (arith, ones-le 32 (c .memory-mask .result) (omega arith))
 
@@ -16,4 +13,4 @@ returns : tie.Need-returns
 returns c = ap ones (c .memory-mask .ensures) ∙ memory-mask-ones _
 
 pub total-spec : {M : Type 1} → statement M
-total-spec = tie.close (tie.spec memory-mask-requires cast-result returns)
+total-spec = tie.close (tie.spec (λ c κs. search needs) cast-result returns)

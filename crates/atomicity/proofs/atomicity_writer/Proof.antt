@@ -4,18 +4,6 @@ use borrow.Author.Needs.{needs}
 use Rattle.atomicity.proofs.atomicity_writer.Statement.{statement}
 use Rattle.atomicity.proofs.atomicity_writer.Tie as tie
 
-lowest-sc-requires : tie.Need-lowest-sc-requires
-lowest-sc-requires c κs = search needs
-
-write-is-late-requires : tie.Need-write-is-late-requires
-write-is-late-requires c κs = search needs
-
-returned-from-requires : tie.Need-returned-from-requires
-returned-from-requires c κs = search needs
-
-lowest-intruder-requires : tie.Need-lowest-intruder-requires
-lowest-intruder-requires c κs = search needs
-
 returns : tie.Need-returns
 returns c =
     let cl = c .before .before in
@@ -32,9 +20,9 @@ pub atomicity-writer-spec : {M : Type 1} → statement M
 atomicity-writer-spec =
     tie.close
     (tie.spec
-    lowest-sc-requires
-    write-is-late-requires
-    returned-from-requires
-    lowest-intruder-requires
+    (λ c κs. search needs)
+    (λ c κs. search needs)
+    (λ c κs. search needs)
+    (λ c κs. search needs)
     returns
     returns-2)

@@ -4,15 +4,6 @@ use borrow.Author.Needs.{needs}
 use Rattle.atomicity.proofs.breaks_pair.Statement.{statement}
 use Rattle.atomicity.proofs.breaks_pair.Tie as tie
 
-paired-requires : tie.Need-paired-requires
-paired-requires c κs = search needs
-
-write-is-late-requires : tie.Need-write-is-late-requires
-write-is-late-requires c κs = search needs
-
-lowest-intruder-requires : tie.Need-lowest-intruder-requires
-lowest-intruder-requires c κs = search needs
-
 returns : tie.Need-returns
 unfolding breaksPair
 returns c =
@@ -26,4 +17,4 @@ returns-2 c = and-left _ _ (rw (c .before .paired .ensures) at (c .if1 .left))
 pub breaks-pair-spec : {M : Type 1} → statement M
 breaks-pair-spec =
     tie.close
-    (tie.spec paired-requires write-is-late-requires lowest-intruder-requires returns returns-2)
+    (tie.spec (λ c κs. search needs) (λ c κs. search needs) (λ c κs. search needs) returns returns-2)

@@ -20,39 +20,15 @@ abbrev μ-loop : tie.MeasureT-loop
 loop-holds : tie.Need-loop-holds Inv-loop μ-loop
 loop-holds c = scan-start _ _
 
-cast-if1 : tie.Need-cast-if1 Inv-loop μ-loop
-cast-if1 c = search needs
-
-mul-if1 : tie.Need-mul-if1 Inv-loop μ-loop
-mul-if1 c = search needs
-
-element-copy-out-if1 : tie.Need-element-copy-out-if1 Inv-loop μ-loop
-element-copy-out-if1 c = search needs
-
-add-l : tie.Need-add-l Inv-loop μ-loop
-add-l c = search needs
-
-loop-less : tie.Need-loop-less Inv-loop μ-loop
-loop-less c = search needs
-
 loop-again : tie.Need-loop-again Inv-loop μ-loop
 unfolding kind event
 loop-again c = scan-more _ _ _ (c .before .before .loop .inv) (omega arith) (only-lr _ _ _ _ (ne-eqb _ _ (c .if1 .taken)))
-
-lowest-sc-requires : tie.Need-lowest-sc-requires Inv-loop μ-loop
-lowest-sc-requires c κs = search needs
 
 returns : tie.Need-returns Inv-loop μ-loop
 unfolding breaksAtomicity
 returns c =
     let v = c .before .before .before .before .before .loop in
     sym (scan-hit _ _ _ (v .inv) (omega arith) (some-below _ _ _ (c .before .before .lowest-sc .ensures) (c .if2 .taken)))
-
-add-l-2 : tie.Need-add-l-2 Inv-loop μ-loop
-add-l-2 c = search needs
-
-loop-less-2 : tie.Need-loop-less-2 Inv-loop μ-loop
-loop-less-2 c = search needs
 
 loop-again-2 : tie.Need-loop-again-2 Inv-loop μ-loop
 unfolding breaksAtomicity
@@ -70,15 +46,15 @@ lowest-lr-spec =
     Inv-loop
     μ-loop
     loop-holds
-    cast-if1
-    mul-if1
-    element-copy-out-if1
-    add-l
-    loop-less
+    (λ c. search needs)
+    (λ c. search needs)
+    (λ c. search needs)
+    (λ c. search needs)
+    (λ c. search needs)
     loop-again
-    lowest-sc-requires
+    (λ c κs. search needs)
     returns
-    add-l-2
-    loop-less-2
+    (λ c. search needs)
+    (λ c. search needs)
     loop-again-2
     returns-2)

@@ -3,15 +3,9 @@ use borrow.Author.Needs.{needs}
 use Rattle.atomicity.proofs.write_is_late.Statement.{statement}
 use Rattle.atomicity.proofs.write_is_late.Tie as tie
 
-returned-from-requires : tie.Need-returned-from-requires
-returned-from-requires c κs = search needs
-
-before-requires : tie.Need-before-requires
-before-requires c κs = search needs
-
 returns : tie.Need-returns
 unfolding writeIsLate
 returns c = rw (c .before2 .ensures, c .before .returned-from .ensures)
 
 pub write-is-late-spec : {M : Type 1} → statement M
-write-is-late-spec = tie.close (tie.spec returned-from-requires before-requires returns)
+write-is-late-spec = tie.close (tie.spec (λ c κs. search needs) (λ c κs. search needs) returns)

@@ -7,23 +7,8 @@ use borrow.Author.Needs.{needs}
 use Rattle.bench.proofs.returns.Statement.{statement}
 use Rattle.bench.proofs.returns.Tie as tie
 
-read-requires : tie.Need-read-requires
-read-requires c κs = search needs
-
-enum-told : tie.Need-enum-told
-enum-told c = search needs
-
 determine-requires : tie.Need-determine-requires
 determine-requires c κs = subst Small (sym (c .before .before .before .before .read .ensures .1 ∙ table-read _ (sym (c .before .before .before .before .read .ensures .0) ∙ ap refusalOf (c .before .enum-told .given .1)))) (small-read _ (sym (c .before .before .before .before .read .ensures .0) ∙ ap refusalOf (c .before .enum-told .given .1)))
-
-enum-known-refusal : tie.Need-enum-known-refusal
-enum-known-refusal c = search needs
-
-enum-known-refusal-2 : tie.Need-enum-known-refusal-2
-enum-known-refusal-2 c = search needs
-
-same-length : tie.Need-same-length
-same-length c = search needs
 
 returns : tie.Need-returns
 returns c = returns-judged _ _ _ _ _ _ (sym (c .before .before .before .before .before .before .before .read .ensures .0) ∙ ap refusalOf (c .before .before .before .before .enum-told .given .1)) (c .before .before .before .before .before .before .before .read .ensures .1 ∙ table-read _ (sym (c .before .before .before .before .before .before .before .read .ensures .0) ∙ ap refusalOf (c .before .before .before .before .enum-told .given .1))) (c .before .before .determine .ensures)
@@ -38,12 +23,12 @@ pub returns-spec : {M : Type 1} → statement M
 returns-spec =
     tie.close
     (tie.spec
-    read-requires
-    enum-told
+    (λ c κs. search needs)
+    (λ c. search needs)
     determine-requires
-    enum-known-refusal
-    enum-known-refusal-2
-    same-length
+    (λ c. search needs)
+    (λ c. search needs)
+    (λ c. search needs)
     returns
     returns-2
     returns-3)

@@ -8,23 +8,8 @@ use borrow.Author.Needs.{needs}
 use Rattle.bench.proofs.search.Statement.{statement}
 use Rattle.bench.proofs.search.Tie as tie
 
-read-requires : tie.Need-read-requires
-read-requires c κs = search needs
-
-enum-told : tie.Need-enum-told
-enum-told c = search needs
-
 search-requires : tie.Need-search-requires
 search-requires c κs = subst GoodTable (sym (c .before .before .before .before .read .ensures .1 ∙ table-read _ (sym (c .before .before .before .before .read .ensures .0) ∙ ap refusalOf (c .before .enum-told .given .1)))) (good-read _ (sym (c .before .before .before .before .read .ensures .0) ∙ ap refusalOf (c .before .enum-told .given .1)))
-
-enum-known-refusal : tie.Need-enum-known-refusal
-enum-known-refusal c = search needs
-
-enum-known-refusal-2 : tie.Need-enum-known-refusal-2
-enum-known-refusal-2 c = search needs
-
-same-length : tie.Need-same-length
-same-length c = search needs
 
 returns : tie.Need-returns
 returns c = block-answered clean _ _ _ _ _ _ _ _ (sym (c .before .before .before .before .before .before .before .read .ensures .0) ∙ ap refusalOf (c .before .before .before .before .enum-told .given .1)) (c .before .before .before .before .before .before .before .read .ensures .1 ∙ table-read _ (sym (c .before .before .before .before .before .before .before .read .ensures .0) ∙ ap refusalOf (c .before .before .before .before .enum-told .given .1))) (c .before .before .search .ensures)
@@ -39,12 +24,12 @@ pub search-spec : {M : Type 1} → statement M
 search-spec =
     tie.close
     (tie.spec
-    read-requires
-    enum-told
+    (λ c κs. search needs)
+    (λ c. search needs)
     search-requires
-    enum-known-refusal
-    enum-known-refusal-2
-    same-length
+    (λ c. search needs)
+    (λ c. search needs)
+    (λ c. search needs)
     returns
     returns-2
     returns-3)

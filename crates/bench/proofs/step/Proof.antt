@@ -9,22 +9,10 @@ use borrow.Author.Needs.{needs}
 use Rattle.bench.proofs.step.Statement.{statement}
 use Rattle.bench.proofs.step.Tie as tie
 
-read-requires : tie.Need-read-requires
-read-requires c κs = search needs
-
-enum-told : tie.Need-enum-told
-enum-told c = search needs
-
 answer-requires : tie.Need-answer-requires
 answer-requires c κs =
     let ok = sym (c .before .before .before .read .ensures .0) ∙ ap refusalOf (c .enum-told .given .1) in
     subst (λ (t : Table). Small t × IfTso t) (sym (c .before .before .before .read .ensures .1 ∙ table-read _ ok)) (small-read _ ok, tso-read _ ok)
-
-enum-known-refusal : tie.Need-enum-known-refusal
-enum-known-refusal c = search needs
-
-enum-known-refusal-2 : tie.Need-enum-known-refusal-2
-enum-known-refusal-2 c = search needs
 
 returns : tie.Need-returns
 returns c = step-answered _ _ _ _ _ (sym (c .before .before .before .before .read .ensures .0) ∙ ap refusalOf (c .before .enum-told .given .1)) (c .before .before .before .before .read .ensures .1 ∙ table-read _ (sym (c .before .before .before .before .read .ensures .0) ∙ ap refusalOf (c .before .enum-told .given .1))) (c .answer .ensures)
@@ -39,11 +27,11 @@ pub step-spec : {M : Type 1} → statement M
 step-spec =
     tie.close
     (tie.spec
-    read-requires
-    enum-told
+    (λ c κs. search needs)
+    (λ c. search needs)
     answer-requires
-    enum-known-refusal
-    enum-known-refusal-2
+    (λ c. search needs)
+    (λ c. search needs)
     returns
     returns-2
     returns-3)

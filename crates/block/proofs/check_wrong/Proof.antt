@@ -6,14 +6,8 @@ use borrow.Author.Needs.{needs}
 use Rattle.block.proofs.check_wrong.Statement.{statement}
 use Rattle.block.proofs.check_wrong.Tie as tie
 
-stored-check-requires : tie.Need-stored-check-requires
-stored-check-requires c κs = search needs
-
-checksum-requires : tie.Need-checksum-requires
-checksum-requires c κs = search needs
-
 returns : tie.Need-returns
 returns c = ap₂ (λ (a b : ℕ). not (eqb a b)) (c .before .stored-check .ensures) (c .checksum .ensures)
 
 pub check-wrong-spec : {M : Type 1} → statement M
-check-wrong-spec = tie.close (tie.spec stored-check-requires checksum-requires returns)
+check-wrong-spec = tie.close (tie.spec (λ c κs. search needs) (λ c κs. search needs) returns)

@@ -11,14 +11,8 @@ use borrow.Author.Needs.{needs}
 use Rattle.block.proofs.later_check_wrong.Statement.{statement}
 use Rattle.block.proofs.later_check_wrong.Tie as tie
 
-block-requires : tie.Need-block-requires
-block-requires c κs = search needs
-
 check-wrong-requires : tie.Need-check-wrong-requires
 check-wrong-requires c κs = part-length _ 1 _ (omega (arith, c .before .before .pre)) (c .block .ensures)
-
-block-requires-2 : tie.Need-block-requires-2
-block-requires-2 c κs = search needs
 
 check-wrong-requires-2 : tie.Need-check-wrong-requires-2
 check-wrong-requires-2 c κs = part-length _ 2 _ (omega (arith, c .before .before .before .before .pre)) (c .block2 .ensures)
@@ -31,4 +25,4 @@ returns c =
 pub later-check-wrong-spec : {M : Type 1} → statement M
 later-check-wrong-spec =
     tie.close
-    (tie.spec block-requires check-wrong-requires block-requires-2 check-wrong-requires-2 returns)
+    (tie.spec (λ c κs. search needs) check-wrong-requires (λ c κs. search needs) check-wrong-requires-2 returns)

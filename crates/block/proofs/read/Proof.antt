@@ -9,18 +9,9 @@ use borrow.Author.Needs.{needs}
 use Rattle.block.proofs.read.Statement.{statement}
 use Rattle.block.proofs.read.Tie as tie
 
-refused-requires : tie.Need-refused-requires
-refused-requires c κs = search needs
-
 returns : tie.Need-returns
 unfolding readRefusal readingLines headerLines
 returns c = reads-refused _ 1 _ _ (whole-here _ _ _ _ (lt-ltb _ _ (c .before .if1 .taken))) (c .refused .ensures)
-
-check-wrong-requires : tie.Need-check-wrong-requires
-check-wrong-requires c κs = search needs
-
-refused-requires-2 : tie.Need-refused-requires-2
-refused-requires-2 c κs = search needs
 
 returns-2 : tie.Need-returns-2
 unfolding readRefusal readingLines headerLines
@@ -29,12 +20,6 @@ returns-2 c =
     (whole-next _ _ _ _ _ (le-ltb _ _ (c .before .before .before .if1 .left))
     (whole-here _ _ _ _ (sym (c .before .before .check-wrong .ensures) ∙ c .before .if2 .taken)))
     (c .refused2 .ensures)
-
-marker-wrong-requires : tie.Need-marker-wrong-requires
-marker-wrong-requires c κs = search needs
-
-refused-requires-3 : tie.Need-refused-requires-3
-refused-requires-3 c κs = search needs
 
 returns-3 : tie.Need-returns-3
 unfolding readRefusal readingLines headerLines
@@ -45,12 +30,6 @@ returns-3 c =
     (whole-here _ _ _ _ (sym (c .before .before .marker-wrong .ensures) ∙ c .before .if3 .taken))))
     (c .refused3 .ensures)
 
-shared-slice-read-if4 : tie.Need-shared-slice-read-if4
-shared-slice-read-if4 c = search needs
-
-read-one-requires : tie.Need-read-one-requires
-read-one-requires c κs = search needs
-
 returns-4 : tie.Need-returns-4
 returns-4 c =
     reads-edition one _ _ _
@@ -59,12 +38,6 @@ returns-4 c =
     (sym (c .before .before .before .before .marker-wrong .ensures) ∙ c .before .before .before .if3 .left)
     (c .before .if4 .taken) (c .read-one .ensures)
 
-shared-slice-read-if5 : tie.Need-shared-slice-read-if5
-shared-slice-read-if5 c = search needs
-
-read-two-requires : tie.Need-read-two-requires
-read-two-requires c κs = search needs
-
 returns-5 : tie.Need-returns-5
 returns-5 c =
     reads-edition two _ _ _
@@ -72,9 +45,6 @@ returns-5 c =
     (sym (c .before .before .before .before .before .before .before .before .check-wrong .ensures) ∙ c .before .before .before .before .before .before .before .if2 .left)
     (sym (c .before .before .before .before .before .before .marker-wrong .ensures) ∙ c .before .before .before .before .before .if3 .left)
     (c .before .if5 .taken) (c .read-two .ensures)
-
-refused-requires-4 : tie.Need-refused-requires-4
-refused-requires-4 c κs = search needs
 
 returns-6 : tie.Need-returns-6
 unfolding readRefusal readingLines headerLines
@@ -90,19 +60,19 @@ pub read-spec : {M : Type 1} → statement M
 read-spec =
     tie.close
     (tie.spec
-    refused-requires
+    (λ c κs. search needs)
     returns
-    check-wrong-requires
-    refused-requires-2
+    (λ c κs. search needs)
+    (λ c κs. search needs)
     returns-2
-    marker-wrong-requires
-    refused-requires-3
+    (λ c κs. search needs)
+    (λ c κs. search needs)
     returns-3
-    shared-slice-read-if4
-    read-one-requires
+    (λ c. search needs)
+    (λ c κs. search needs)
     returns-4
-    shared-slice-read-if5
-    read-two-requires
+    (λ c. search needs)
+    (λ c κs. search needs)
     returns-5
-    refused-requires-4
+    (λ c κs. search needs)
     returns-6)

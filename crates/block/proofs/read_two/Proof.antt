@@ -10,18 +10,9 @@ use borrow.Author.Needs.{needs}
 use Rattle.block.proofs.read_two.Statement.{statement}
 use Rattle.block.proofs.read_two.Tie as tie
 
-refused-requires : tie.Need-refused-requires
-refused-requires c κs = search needs
-
 returns : tie.Need-returns
 unfolding editionRefusal editionLines lengthLines
 returns c = reads-as-refused two _ 1 _ _ (whole-here _ _ _ _ (ap not (ne-eqb _ _ (c .before .if1 .taken)))) (c .refused .ensures)
-
-later-check-wrong-requires : tie.Need-later-check-wrong-requires
-later-check-wrong-requires c κs = search needs
-
-refused-requires-2 : tie.Need-refused-requires-2
-refused-requires-2 c κs = search needs
 
 returns-2 : tie.Need-returns-2
 unfolding editionRefusal editionLines lengthLines
@@ -30,18 +21,6 @@ returns-2 c =
     (whole-next _ _ _ _ _ (ap not (eq-eqb _ _ (c .before .before .before .if1 .left)))
     (whole-here _ _ _ _ (sym (c .before .before .later-check-wrong .ensures) ∙ c .before .if2 .taken)))
     (c .refused2 .ensures)
-
-decode-requires : tie.Need-decode-requires
-decode-requires c κs = search needs
-
-wide-bytes-not-zero-requires : tie.Need-wide-bytes-not-zero-requires
-wide-bytes-not-zero-requires c κs = search needs
-
-refuse-requires : tie.Need-refuse-requires
-refuse-requires c κs = search needs
-
-table-if-requires : tie.Need-table-if-requires
-table-if-requires c κs = search needs
 
 returns-3 : tie.Need-returns-3
 unfolding editionRefusal editionLines lengthLines tableLines
@@ -56,13 +35,13 @@ pub read-two-spec : {M : Type 1} → statement M
 read-two-spec =
     tie.close
     (tie.spec
-    refused-requires
+    (λ c κs. search needs)
     returns
-    later-check-wrong-requires
-    refused-requires-2
+    (λ c κs. search needs)
+    (λ c κs. search needs)
     returns-2
-    decode-requires
-    wide-bytes-not-zero-requires
-    refuse-requires
-    table-if-requires
+    (λ c κs. search needs)
+    (λ c κs. search needs)
+    (λ c κs. search needs)
+    (λ c κs. search needs)
     returns-3)

@@ -26,24 +26,9 @@ abbrev μ-loop : tie.MeasureT-loop
 loop-holds : tie.Need-loop-holds Inv-loop μ-loop
 loop-holds c = (omega arith, refl)
 
-shared-slice-read-e : tie.Need-shared-slice-read-e Inv-loop μ-loop
-shared-slice-read-e c = search needs
-
 returns : tie.Need-returns Inv-loop μ-loop
 unfolding isMemoryEvent
 returns c = sym (all-fails _ (c .before .before .before .before .before .args .gmo .now) (c .before .before .before .loop .i) (omega arith) (sym (and-left _ _ (le-ltb _ _ (c .if1 .taken)))))
-
-cast-memory : tie.Need-cast-memory Inv-loop μ-loop
-cast-memory c = search needs
-
-mul-memory : tie.Need-mul-memory Inv-loop μ-loop
-mul-memory c = search needs
-
-element-copy-out-memory : tie.Need-element-copy-out-memory Inv-loop μ-loop
-element-copy-out-memory c = search needs
-
-memory-requires : tie.Need-memory-requires Inv-loop μ-loop
-memory-requires c κs = search needs
 
 returns-2 : tie.Need-returns-2 Inv-loop μ-loop
 unfolding isMemoryEvent memory reads writes kind event
@@ -51,12 +36,6 @@ returns-2 c =
     let x = getD (c .before .before .before .before .before .before .before .before .args .gmo .now) (c .before .before .before .before .before .before .loop .i) 0 in
     sym (all-fails _ (c .before .before .before .before .before .before .before .before .args .gmo .now) (c .before .before .before .before .before .before .loop .i) (omega arith)
     (and-right (ltb x (c .before .before .before .before .before .before .before .before .args .t1 .count)) _ (sym (c .before .memory .ensures) ∙ not-true _ (c .if2 .taken))))
-
-add-i : tie.Need-add-i Inv-loop μ-loop
-add-i c = search needs
-
-loop-less : tie.Need-loop-less Inv-loop μ-loop
-loop-less c = search needs
 
 loop-again : tie.Need-loop-again Inv-loop μ-loop
 unfolding isMemoryEvent memory reads writes kind event
@@ -76,14 +55,14 @@ all-memory-spec =
     Inv-loop
     μ-loop
     loop-holds
-    shared-slice-read-e
+    (λ c. search needs)
     returns
-    cast-memory
-    mul-memory
-    element-copy-out-memory
-    memory-requires
+    (λ c. search needs)
+    (λ c. search needs)
+    (λ c. search needs)
+    (λ c κs. search needs)
     returns-2
-    add-i
-    loop-less
+    (λ c. search needs)
+    (λ c. search needs)
     loop-again
     returns-3)

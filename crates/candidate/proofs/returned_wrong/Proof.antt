@@ -16,21 +16,9 @@ abbrev μ-loop : tie.MeasureT-loop
 loop-holds : tie.Need-loop-holds Inv-loop μ-loop
 loop-holds c = scan-start _ _
 
-returned-from-requires : tie.Need-returned-from-requires Inv-loop μ-loop
-returned-from-requires c κs = search needs
-
-entry-wrong-requires : tie.Need-entry-wrong-requires Inv-loop μ-loop
-entry-wrong-requires c κs = search needs
-
 returns : tie.Need-returns Inv-loop μ-loop
 unfolding returnedWrong entryWrong
 returns c = sym (some-hit _ _ _ (c .before .before .before .before .before .loop .inv) (omega arith) (rw (c .before .entry-wrong .ensures, c .before .before .returned-from .ensures) at (c .if2 .taken)))
-
-add-e : tie.Need-add-e Inv-loop μ-loop
-add-e c = search needs
-
-loop-less : tie.Need-loop-less Inv-loop μ-loop
-loop-less c = search needs
 
 loop-again : tie.Need-loop-again Inv-loop μ-loop
 unfolding entryWrong
@@ -47,10 +35,10 @@ returned-wrong-spec =
     Inv-loop
     μ-loop
     loop-holds
-    returned-from-requires
-    entry-wrong-requires
+    (λ c κs. search needs)
+    (λ c κs. search needs)
     returns
-    add-e
-    loop-less
+    (λ c. search needs)
+    (λ c. search needs)
     loop-again
     returns-2)

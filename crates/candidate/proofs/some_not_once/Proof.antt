@@ -20,30 +20,9 @@ abbrev μ-loop : tie.MeasureT-loop
 loop-holds : tie.Need-loop-holds Inv-loop μ-loop
 loop-holds c = scan-start _ _
 
-cast-memory : tie.Need-cast-memory Inv-loop μ-loop
-cast-memory c = search needs
-
-mul-memory : tie.Need-mul-memory Inv-loop μ-loop
-mul-memory c = search needs
-
-element-copy-out-memory : tie.Need-element-copy-out-memory Inv-loop μ-loop
-element-copy-out-memory c = search needs
-
-memory-requires : tie.Need-memory-requires Inv-loop μ-loop
-memory-requires c κs = search needs
-
-count-of-requires : tie.Need-count-of-requires Inv-loop μ-loop
-count-of-requires c κs = search needs
-
 returns : tie.Need-returns Inv-loop μ-loop
 unfolding memory reads writes kind event
 returns c = sym (some-hit _ _ _ (c .before .before .before .before .before .loop .inv) (omega arith) (rw (c .before .before .memory .ensures, c .before .count-of .ensures) at (c .if1 .taken)))
-
-add-e : tie.Need-add-e Inv-loop μ-loop
-add-e c = search needs
-
-loop-less : tie.Need-loop-less Inv-loop μ-loop
-loop-less c = search needs
 
 loop-again : tie.Need-loop-again Inv-loop μ-loop
 unfolding memory reads writes kind event
@@ -59,13 +38,13 @@ some-not-once-spec =
     Inv-loop
     μ-loop
     loop-holds
-    cast-memory
-    mul-memory
-    element-copy-out-memory
-    memory-requires
-    count-of-requires
+    (λ c. search needs)
+    (λ c. search needs)
+    (λ c. search needs)
+    (λ c κs. search needs)
+    (λ c κs. search needs)
     returns
-    add-e
-    loop-less
+    (λ c. search needs)
+    (λ c. search needs)
     loop-again
     returns-2)

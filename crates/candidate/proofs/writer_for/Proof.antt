@@ -10,27 +10,6 @@ use borrow.Author.Needs.{needs}
 use Rattle.candidate.proofs.writer_for.Statement.{statement}
 use Rattle.candidate.proofs.writer_for.Tie as tie
 
-cast-x : tie.Need-cast-x
-cast-x c = search needs
-
-mul-x : tie.Need-mul-x
-mul-x c = search needs
-
-element-copy-out-x : tie.Need-element-copy-out-x
-element-copy-out-x c = search needs
-
-mul-y : tie.Need-mul-y
-mul-y c = search needs
-
-element-copy-out-y : tie.Need-element-copy-out-y
-element-copy-out-y c = search needs
-
-writes-requires : tie.Need-writes-requires
-writes-requires c κs = search needs
-
-same-location-requires : tie.Need-same-location-requires
-same-location-requires c κs = search needs
-
 returns : tie.Need-returns
 unfolding writerFor writes kind sameLocation location event
 returns c = rw (c .before .writes .ensures, c .same-location .ensures) (and-taken3 _ _ _ (lt-ltb _ _ (c .before .before .before .before .before .if1 .taken)))
@@ -43,12 +22,12 @@ pub writer-for-spec : {M : Type 1} → statement M
 writer-for-spec =
     tie.close
     (tie.spec
-    cast-x
-    mul-x
-    element-copy-out-x
-    mul-y
-    element-copy-out-y
-    writes-requires
-    same-location-requires
+    (λ c. search needs)
+    (λ c. search needs)
+    (λ c. search needs)
+    (λ c. search needs)
+    (λ c. search needs)
+    (λ c κs. search needs)
+    (λ c κs. search needs)
     returns
     returns-2)

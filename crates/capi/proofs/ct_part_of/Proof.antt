@@ -6,15 +6,6 @@ use borrow.Author.Needs.{needs}
 use Rattle.capi.proofs.ct_part_of.Statement.{statement}
 use Rattle.capi.proofs.ct_part_of.Tie as tie
 
-part-requires : tie.Need-part-requires
-part-requires c κs = search needs
-
-refusal-word-requires : tie.Need-refusal-word-requires
-refusal-word-requires c κs = search needs
-
-refusal-word-requires-2 : tie.Need-refusal-word-requires-2
-refusal-word-requires-2 c κs = search needs
-
 mul-t12 : tie.Need-mul-t12
 mul-t12 c = omega (arith, begins-within _ (c .before .before .before .before .args .k) _ (ap length (c .before .before .part .ensures)) (omega (arith, c .before .if1 .left)))
 
@@ -28,9 +19,9 @@ pub ct-part-of-spec : {M : Type 1} → statement M
 ct-part-of-spec =
     tie.close
     (tie.spec
-    part-requires
-    refusal-word-requires
-    refusal-word-requires-2
+    (λ c κs. search needs)
+    (λ c κs. search needs)
+    (λ c κs. search needs)
     mul-t12
     returns
     returns-2)

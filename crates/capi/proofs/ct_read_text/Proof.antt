@@ -5,9 +5,6 @@ use borrow.Author.Needs.{needs}
 use Rattle.capi.proofs.ct_read_text.Statement.{statement}
 use Rattle.capi.proofs.ct_read_text.Tie as tie
 
-read-text-requires : tie.Need-read-text-requires
-read-text-requires c κs = search needs
-
 text-refusal-word-requires : tie.Need-text-refusal-word-requires
 text-refusal-word-requires c κs = place-fits _ (c .read-text .result .refusal) (c .read-text .ensures .0)
 
@@ -15,4 +12,4 @@ returns : tie.Need-returns
 returns c = c .text-refusal-word .ensures ∙ ap refusalWord (c .before .read-text .ensures .0)
 
 pub ct-read-text-spec : {M : Type 1} → statement M
-ct-read-text-spec = tie.close (tie.spec read-text-requires text-refusal-word-requires returns)
+ct-read-text-spec = tie.close (tie.spec (λ c κs. search needs) text-refusal-word-requires returns)

@@ -4,17 +4,8 @@ use borrow.Author.Needs.{needs}
 use Rattle.capi.proofs.ct_returns.Statement.{statement}
 use Rattle.capi.proofs.ct_returns.Tie as tie
 
-returns-requires : tie.Need-returns-requires
-returns-requires c κs = search needs
-
-refusal-word-requires : tie.Need-refusal-word-requires
-refusal-word-requires c κs = search needs
-
-same-length : tie.Need-same-length
-same-length c = search needs
-
 returns : tie.Need-returns
 returns c = (c .refusal-word .ensures ∙ ap refusalWord (c .before .before .before .returns .ensures .0), c .before .before .before .returns .ensures .1)
 
 pub ct-returns-spec : {M : Type 1} → statement M
-ct-returns-spec = tie.close (tie.spec returns-requires refusal-word-requires same-length returns)
+ct-returns-spec = tie.close (tie.spec (λ c κs. search needs) (λ c κs. search needs) (λ c. search needs) returns)

@@ -4,14 +4,8 @@ use borrow.Author.Needs.{needs}
 use Rattle.capi.proofs.ct_rules.Statement.{statement}
 use Rattle.capi.proofs.ct_rules.Tie as tie
 
-rules-requires : tie.Need-rules-requires
-rules-requires c κs = search needs
-
-pair-word-requires : tie.Need-pair-word-requires
-pair-word-requires c κs = search needs
-
 returns : tie.Need-returns
 returns c = c .pair-word .ensures ∙ ap ruledWord (c .before .rules .ensures)
 
 pub ct-rules-spec : {M : Type 1} → statement M
-ct-rules-spec = tie.close (tie.spec rules-requires pair-word-requires returns)
+ct-rules-spec = tie.close (tie.spec (λ c κs. search needs) (λ c κs. search needs) returns)

@@ -5,14 +5,8 @@ use borrow.Author.Needs.{needs}
 use Rattle.capi.proofs.ct_search.Statement.{statement}
 use Rattle.capi.proofs.ct_search.Tie as tie
 
-search-requires : tie.Need-search-requires
-search-requires c κs = search needs
-
 reply-word-requires : tie.Need-reply-word-requires
 reply-word-requires c κs = given-fits (ofBlock _) (block-bounded _) _ _ _ _ (c .before .before .search .result) (c .before .before .search .ensures)
-
-same-length : tie.Need-same-length
-same-length c = search needs
 
 returns : tie.Need-returns
 returns c =
@@ -20,4 +14,4 @@ returns c =
     (c .reply-word .ensures ∙ given-word (ofBlock _) (block-bounded _) _ _ _ _ (s .result) (s .ensures), s .ensures .1 .0)
 
 pub ct-search-spec : {M : Type 1} → statement M
-ct-search-spec = tie.close (tie.spec search-requires reply-word-requires same-length returns)
+ct-search-spec = tie.close (tie.spec (λ c κs. search needs) reply-word-requires (λ c. search needs) returns)

@@ -5,14 +5,8 @@ use borrow.Author.Needs.{needs}
 use Rattle.capi.proofs.ct_search_pruned.Statement.{statement}
 use Rattle.capi.proofs.ct_search_pruned.Tie as tie
 
-search-pruned-requires : tie.Need-search-pruned-requires
-search-pruned-requires c κs = search needs
-
 reply-word-requires : tie.Need-reply-word-requires
 reply-word-requires c κs = given-fits (ofBlockPruned _) (pruned-bounded _) _ _ _ _ (c .before .before .search-pruned .result) (c .before .before .search-pruned .ensures)
-
-same-length : tie.Need-same-length
-same-length c = search needs
 
 returns : tie.Need-returns
 returns c =
@@ -20,4 +14,4 @@ returns c =
     (c .reply-word .ensures ∙ given-word (ofBlockPruned _) (pruned-bounded _) _ _ _ _ (s .result) (s .ensures), s .ensures .1 .0)
 
 pub ct-search-pruned-spec : {M : Type 1} → statement M
-ct-search-pruned-spec = tie.close (tie.spec search-pruned-requires reply-word-requires same-length returns)
+ct-search-pruned-spec = tie.close (tie.spec (λ c κs. search needs) reply-word-requires (λ c. search needs) returns)

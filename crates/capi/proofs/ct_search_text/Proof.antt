@@ -4,14 +4,8 @@ use borrow.Author.Needs.{needs}
 use Rattle.capi.proofs.ct_search_text.Statement.{statement}
 use Rattle.capi.proofs.ct_search_text.Tie as tie
 
-search-text-requires : tie.Need-search-text-requires
-search-text-requires c κs = search needs
-
 text-reply-word-requires : tie.Need-text-reply-word-requires
 text-reply-word-requires c κs = text-fits _ _ _ _ _ (c .before .before .search-text .result) (c .before .before .search-text .ensures)
-
-same-length : tie.Need-same-length
-same-length c = search needs
 
 returns : tie.Need-returns
 returns c =
@@ -20,4 +14,4 @@ returns c =
 
 pub ct-search-text-spec : {M : Type 1} → statement M
 ct-search-text-spec =
-    tie.close (tie.spec search-text-requires text-reply-word-requires same-length returns)
+    tie.close (tie.spec (λ c κs. search needs) text-reply-word-requires (λ c. search needs) returns)

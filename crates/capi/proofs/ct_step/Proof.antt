@@ -4,14 +4,8 @@ use borrow.Author.Needs.{needs}
 use Rattle.capi.proofs.ct_step.Statement.{statement}
 use Rattle.capi.proofs.ct_step.Tie as tie
 
-step-requires : tie.Need-step-requires
-step-requires c κs = search needs
-
-step-word-requires : tie.Need-step-word-requires
-step-word-requires c κs = search needs
-
 returns : tie.Need-returns
 returns c = c .step-word .ensures ∙ ap stepWord (c .before .step .ensures)
 
 pub ct-step-spec : {M : Type 1} → statement M
-ct-step-spec = tie.close (tie.spec step-requires step-word-requires returns)
+ct-step-spec = tie.close (tie.spec (λ c κs. search needs) (λ c κs. search needs) returns)

@@ -4,14 +4,8 @@ use borrow.Author.Needs.{needs}
 use Rattle.capi.proofs.ct_verdict.Statement.{statement}
 use Rattle.capi.proofs.ct_verdict.Tie as tie
 
-verdict-requires : tie.Need-verdict-requires
-verdict-requires c κs = search needs
-
-verdict-word-requires : tie.Need-verdict-word-requires
-verdict-word-requires c κs = search needs
-
 returns : tie.Need-returns
 returns c = c .verdict-word .ensures ∙ ap judgedWord (c .before .verdict .ensures)
 
 pub ct-verdict-spec : {M : Type 1} → statement M
-ct-verdict-spec = tie.close (tie.spec verdict-requires verdict-word-requires returns)
+ct-verdict-spec = tie.close (tie.spec (λ c κs. search needs) (λ c κs. search needs) returns)

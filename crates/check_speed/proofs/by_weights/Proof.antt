@@ -19,21 +19,6 @@ loop-holds : tie.Need-loop-holds Inv-loop μ-loop
 unfolding weightedFrom
 loop-holds c = search needs
 
-shared-slice-read-weighted : tie.Need-shared-slice-read-weighted Inv-loop μ-loop
-shared-slice-read-weighted c = search needs
-
-weighted-requires : tie.Need-weighted-requires Inv-loop μ-loop
-weighted-requires c κs = search needs
-
-add-sum : tie.Need-add-sum Inv-loop μ-loop
-add-sum c = search needs
-
-add-i : tie.Need-add-i Inv-loop μ-loop
-add-i c = search needs
-
-loop-less : tie.Need-loop-less Inv-loop μ-loop
-loop-less c = search needs
-
 loop-again : tie.Need-loop-again Inv-loop μ-loop
 loop-again c =
     let v = c .before .before .before .loop in
@@ -50,10 +35,10 @@ by-weights-spec =
     Inv-loop
     μ-loop
     loop-holds
-    shared-slice-read-weighted
-    weighted-requires
-    add-sum
-    add-i
-    loop-less
+    (λ c. search needs)
+    (λ c κs. search needs)
+    (λ c. search needs)
+    (λ c. search needs)
+    (λ c. search needs)
     loop-again
     returns)

@@ -7,12 +7,6 @@ use Rattle.check_speed.proofs.WeightLaws.{weighted-small}
 use Rattle.check_speed.proofs.weighted.Statement.{statement}
 use Rattle.check_speed.proofs.weighted.Tie as tie
 
-cast-result : tie.Need-cast-result
-cast-result c = search needs
-
-add-result : tie.Need-add-result
-add-result c = search needs
-
 mul-result : tie.Need-mul-result
 mul-result c = omega (arith, weighted-small (c .args .i) covered (c .args .b) (c .pre) (c .fits .b .fits))
 
@@ -20,4 +14,4 @@ returns : tie.Need-returns
 returns c = (refl, weighted-small (c .args .i) covered (c .args .b) (c .pre) (c .fits .b .fits))
 
 pub weighted-spec : {M : Type 1} → statement M
-weighted-spec = tie.close (tie.spec cast-result add-result mul-result returns)
+weighted-spec = tie.close (tie.spec (λ c. search needs) (λ c. search needs) mul-result returns)

@@ -9,38 +9,14 @@ use Rattle.checksum.proofs.LaneLaws.{added-lanes}
 use Rattle.checksum.proofs.add.Statement.{statement}
 use Rattle.checksum.proofs.add.Tie as tie
 
-array-read-t7 : tie.Need-array-read-t7
-array-read-t7 c = search needs
-
-array-read-t10 : tie.Need-array-read-t10
-array-read-t10 c = search needs
-
 add-t11 : tie.Need-add-t11
 add-t11 c = omega (arith, plain-at (c .args .t1) 0, plain-at (c .args .t2) 0)
-
-array-read-t14 : tie.Need-array-read-t14
-array-read-t14 c = search needs
-
-array-read-t17 : tie.Need-array-read-t17
-array-read-t17 c = search needs
 
 add-t18 : tie.Need-add-t18
 add-t18 c = omega (arith, plain-at (c .args .t1) 1, plain-at (c .args .t2) 1)
 
-array-read-t21 : tie.Need-array-read-t21
-array-read-t21 c = search needs
-
-array-read-t24 : tie.Need-array-read-t24
-array-read-t24 c = search needs
-
 add-t25 : tie.Need-add-t25
 add-t25 c = omega (arith, plain-at (c .args .t1) 2, plain-at (c .args .t2) 2)
-
-array-read-t28 : tie.Need-array-read-t28
-array-read-t28 c = search needs
-
-array-read-t31 : tie.Need-array-read-t31
-array-read-t31 c = search needs
 
 add-t32 : tie.Need-add-t32
 add-t32 c = omega (arith, plain-at (c .args .t1) 3, plain-at (c .args .t2) 3)
@@ -53,16 +29,16 @@ pub add-spec : {M : Type 1} → statement M
 add-spec =
     tie.close
     (tie.spec
-    array-read-t7
-    array-read-t10
+    (λ c. search needs)
+    (λ c. search needs)
     add-t11
-    array-read-t14
-    array-read-t17
+    (λ c. search needs)
+    (λ c. search needs)
     add-t18
-    array-read-t21
-    array-read-t24
+    (λ c. search needs)
+    (λ c. search needs)
     add-t25
-    array-read-t28
-    array-read-t31
+    (λ c. search needs)
+    (λ c. search needs)
     add-t32
     returns)

@@ -5,23 +5,11 @@ use Rattle.checksum.proofs.LaneLaws.{plain-lanes, weighted-lanes}
 use Rattle.checksum.proofs.by_place.Statement.{statement}
 use Rattle.checksum.proofs.by_place.Tie as tie
 
-array-read-from-3 : tie.Need-array-read-from-3
-array-read-from-3 c = search needs
-
-array-read-from-2 : tie.Need-array-read-from-2
-array-read-from-2 c = search needs
-
 add-from-2 : tie.Need-add-from-2
 add-from-2 c = omega (arith, plain-lanes (c .args .t1) (c .good .0 .1 .0 .1))
 
-array-read-from-1 : tie.Need-array-read-from-1
-array-read-from-1 c = search needs
-
 add-from-1 : tie.Need-add-from-1
 add-from-1 c = omega (arith, plain-lanes (c .args .t1) (c .good .0 .1 .0 .1))
-
-array-read-from-0 : tie.Need-array-read-from-0
-array-read-from-0 c = search needs
 
 add-from-0 : tie.Need-add-from-0
 add-from-0 c = omega (arith, plain-lanes (c .args .t1) (c .good .0 .1 .0 .1))
@@ -42,12 +30,12 @@ pub by-place-spec : {M : Type 1} → statement M
 by-place-spec =
     tie.close
     (tie.spec
-    array-read-from-3
-    array-read-from-2
+    (λ c. search needs)
+    (λ c. search needs)
     add-from-2
-    array-read-from-1
+    (λ c. search needs)
     add-from-1
-    array-read-from-0
+    (λ c. search needs)
     add-from-0
     add-result
     add-result-2

@@ -21,9 +21,6 @@ Inv-loop s sums₀ steps₀ at₀ sums steps at =
 abbrev μ-loop : tie.MeasureT-loop
 μ-loop s sums₀ steps₀ at₀ sums steps at = at
 
-row-requires : tie.Need-row-requires Inv-loop μ-loop
-row-requires c κs = search needs
-
 loop-holds : tie.Need-loop-holds Inv-loop μ-loop
 unfolding plain
 loop-holds c =
@@ -34,21 +31,6 @@ loop-holds c =
       c .row .ensures .1,
       omega arith,
     )
-
-sub-at : tie.Need-sub-at Inv-loop μ-loop
-sub-at c = search needs
-
-add-requires : tie.Need-add-requires Inv-loop μ-loop
-add-requires c κs = search needs
-
-row-requires-2 : tie.Need-row-requires-2 Inv-loop μ-loop
-row-requires-2 c κs = search needs
-
-add-requires-2 : tie.Need-add-requires-2 Inv-loop μ-loop
-add-requires-2 c κs = search needs
-
-loop-less : tie.Need-loop-less Inv-loop μ-loop
-loop-less c = search needs
 
 loop-again : tie.Need-loop-again Inv-loop μ-loop
 loop-again c =
@@ -66,12 +48,6 @@ loop-again c =
       omega (arith, turn .1, row .ensures .1),
       omega (arith, turn .2),
     )
-
-times-lanes-requires : tie.Need-times-lanes-requires Inv-loop μ-loop
-times-lanes-requires c κs = search needs
-
-by-place-requires : tie.Need-by-place-requires Inv-loop μ-loop
-by-place-requires c κs = search needs
 
 add-result : tie.Need-add-result Inv-loop μ-loop
 add-result c =
@@ -92,15 +68,15 @@ checksum-spec =
     (tie.spec
     Inv-loop
     μ-loop
-    row-requires
+    (λ c κs. search needs)
     loop-holds
-    sub-at
-    add-requires
-    row-requires-2
-    add-requires-2
-    loop-less
+    (λ c. search needs)
+    (λ c κs. search needs)
+    (λ c κs. search needs)
+    (λ c κs. search needs)
+    (λ c. search needs)
     loop-again
-    times-lanes-requires
-    by-place-requires
+    (λ c κs. search needs)
+    (λ c κs. search needs)
     add-result
     returns)

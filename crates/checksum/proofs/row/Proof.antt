@@ -8,35 +8,14 @@ use Rattle.checksum.proofs.LaneLaws.{row-lanes}
 use Rattle.checksum.proofs.row.Statement.{statement}
 use Rattle.checksum.proofs.row.Tie as tie
 
-shared-slice-read-t4 : tie.Need-shared-slice-read-t4
-shared-slice-read-t4 c = search needs
-
 cast-t5 : tie.Need-cast-t5
 cast-t5 c = omega (arith, c .shared-slice-known .given (c .before .args .at))
-
-add-t6 : tie.Need-add-t6
-add-t6 c = search needs
-
-shared-slice-read-t8 : tie.Need-shared-slice-read-t8
-shared-slice-read-t8 c = search needs
 
 cast-t9 : tie.Need-cast-t9
 cast-t9 c = omega (arith, c .shared-slice-known2 .given (c .before .before .args .at + 1))
 
-add-t10 : tie.Need-add-t10
-add-t10 c = search needs
-
-shared-slice-read-t12 : tie.Need-shared-slice-read-t12
-shared-slice-read-t12 c = search needs
-
 cast-t13 : tie.Need-cast-t13
 cast-t13 c = omega (arith, c .shared-slice-known3 .given (c .before .before .before .args .at + 2))
-
-add-t14 : tie.Need-add-t14
-add-t14 c = search needs
-
-shared-slice-read-t16 : tie.Need-shared-slice-read-t16
-shared-slice-read-t16 c = search needs
 
 cast-t17 : tie.Need-cast-t17
 cast-t17 c = omega (arith, c .shared-slice-known4 .given (c .before .before .before .before .args .at + 3))
@@ -52,15 +31,15 @@ pub row-spec : {M : Type 1} → statement M
 row-spec =
     tie.close
     (tie.spec
-    shared-slice-read-t4
+    (λ c. search needs)
     cast-t5
-    add-t6
-    shared-slice-read-t8
+    (λ c. search needs)
+    (λ c. search needs)
     cast-t9
-    add-t10
-    shared-slice-read-t12
+    (λ c. search needs)
+    (λ c. search needs)
     cast-t13
-    add-t14
-    shared-slice-read-t16
+    (λ c. search needs)
+    (λ c. search needs)
     cast-t17
     returns)

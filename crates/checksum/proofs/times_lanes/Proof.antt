@@ -5,23 +5,11 @@ use Rattle.checksum.proofs.LaneLaws.{plain-lanes}
 use Rattle.checksum.proofs.times_lanes.Statement.{statement}
 use Rattle.checksum.proofs.times_lanes.Tie as tie
 
-array-read-once : tie.Need-array-read-once
-array-read-once c = search needs
-
-array-read-once-2 : tie.Need-array-read-once-2
-array-read-once-2 c = search needs
-
 add-once : tie.Need-add-once
 add-once c = omega (arith, plain-lanes (c .args .t1) (c .good .0 .1 .0 .1))
 
-array-read-once-3 : tie.Need-array-read-once-3
-array-read-once-3 c = search needs
-
 add-once-2 : tie.Need-add-once-2
 add-once-2 c = omega (arith, plain-lanes (c .args .t1) (c .good .0 .1 .0 .1))
-
-array-read-once-4 : tie.Need-array-read-once-4
-array-read-once-4 c = search needs
 
 add-once-3 : tie.Need-add-once-3
 add-once-3 c = omega (arith, plain-lanes (c .args .t1) (c .good .0 .1 .0 .1))
@@ -39,12 +27,12 @@ pub times-lanes-spec : {M : Type 1} → statement M
 times-lanes-spec =
     tie.close
     (tie.spec
-    array-read-once
-    array-read-once-2
+    (λ c. search needs)
+    (λ c. search needs)
     add-once
-    array-read-once-3
+    (λ c. search needs)
     add-once-2
-    array-read-once-4
+    (λ c. search needs)
     add-once-3
     add-twice
     add-result

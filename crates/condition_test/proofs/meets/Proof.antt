@@ -17,9 +17,6 @@ returns c =
       s .pre .1,
     )
 
-run-on-requires : tie.Need-run-on-requires
-run-on-requires c κs = search needs
-
 returns-2 : tie.Need-returns-2
 returns-2 c =
     let r = c .before .before .before .before .before .before .before .before in
@@ -31,9 +28,6 @@ returns-2 c =
           (c .run-on .last .1 .1 .1 .1 .1 .0) (c .run-on .ensures),
       s .pre .0 .long,
     )
-
-run-on-requires-2 : tie.Need-run-on-requires-2
-run-on-requires-2 c κs = search needs
 
 returns-3 : tie.Need-returns-3
 returns-3 c =
@@ -57,8 +51,8 @@ meets-spec =
     (λ c. search needs)
     (λ c. search needs)
     (λ c. search needs)
-    run-on-requires
+    (λ c κs. search needs)
     returns-2
     (λ c κs. search needs)
-    run-on-requires-2
+    (λ c κs. search needs)
     returns-3)

@@ -5,7 +5,6 @@ use Rattle.deciding.proofs.ReplyLaws.{count-is, decides-none, decides-f
 use borrow.Author.Needs.{needs}
 use Rattle.deciding.proofs.decide_by.Statement.{statement}
 use Rattle.deciding.proofs.decide_by.Tie as tie
-use Rattle.event_sets.proofs.of_table.Reads as of-table-reads
 
 returns : tie.Need-returns
 returns c =

@@ -5,18 +5,6 @@ use Rattle.decode.specs.Decoded.{eventAt}
 use Rattle.decode.proofs.event_at.Statement.{statement}
 use Rattle.decode.proofs.event_at.Tie as tie
 
-mul-record-at : tie.Need-mul-record-at
-mul-record-at c = search needs
-
-add-record-at : tie.Need-add-record-at
-add-record-at c = search needs
-
-record-at-requires : tie.Need-record-at-requires
-record-at-requires c κs = search needs
-
-no-event-requires : tie.Need-no-event-requires
-no-event-requires c κs = search needs
-
 returns : tie.Need-returns
 unfolding eventAt
 returns c = rw (lt-ltb _ _ (c .before .if1 .taken)) (c .record-at .ensures)
@@ -28,4 +16,4 @@ returns-2 c = rw (le-ltb _ _ (c .before .if1 .left)) (c .no-event .ensures)
 pub event-at-spec : {M : Type 1} → statement M
 event-at-spec =
     tie.close
-    (tie.spec mul-record-at add-record-at record-at-requires no-event-requires returns returns-2)
+    (tie.spec (λ c. search needs) (λ c. search needs) (λ c κs. search needs) (λ c κs. search needs) returns returns-2)

@@ -6,27 +6,6 @@ use Rattle.decode.specs.Decoded.{initialOf, finalOf, headed}
 use Rattle.decode.proofs.headed.Statement.{statement}
 use Rattle.decode.proofs.headed.Tie as tie
 
-byte-at-requires : tie.Need-byte-at-requires
-byte-at-requires c κs = search needs
-
-byte-at-requires-2 : tie.Need-byte-at-requires-2
-byte-at-requires-2 c κs = search needs
-
-byte-at-requires-3 : tie.Need-byte-at-requires-3
-byte-at-requires-3 c κs = search needs
-
-byte-at-requires-4 : tie.Need-byte-at-requires-4
-byte-at-requires-4 c κs = search needs
-
-byte-at-requires-5 : tie.Need-byte-at-requires-5
-byte-at-requires-5 c κs = search needs
-
-values-requires : tie.Need-values-requires
-values-requires c κs = search needs
-
-values-requires-2 : tie.Need-values-requires-2
-values-requires-2 c κs = search needs
-
 returns : tie.Need-returns
 unfolding headed initialOf finalOf
 returns c =
@@ -38,11 +17,11 @@ pub headed-spec : {M : Type 1} → statement M
 headed-spec =
     tie.close
     (tie.spec
-    byte-at-requires
-    byte-at-requires-2
-    byte-at-requires-3
-    byte-at-requires-4
-    byte-at-requires-5
-    values-requires
-    values-requires-2
+    (λ c κs. search needs)
+    (λ c κs. search needs)
+    (λ c κs. search needs)
+    (λ c κs. search needs)
+    (λ c κs. search needs)
+    (λ c κs. search needs)
+    (λ c κs. search needs)
     returns)

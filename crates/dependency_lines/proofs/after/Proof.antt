@@ -11,15 +11,6 @@ passed-same : {s s′ x r r′ : ℕ} → s ≡ s′ → r ≡ r′ →
     _≡_ {A = Passed} (record { sources = s; controls = x; reserved = r }) (record { sources = s′; controls = x; reserved = r′ })
 passed-same p q = cc
 
-fences-requires : tie.Need-fences-requires
-fences-requires c κs = search needs
-
-one-if-requires : tie.Need-one-if-requires
-one-if-requires c κs = search needs
-
-reserved-after-requires : tie.Need-reserved-after-requires
-reserved-after-requires c κs = search needs
-
 returns : tie.Need-returns
 unfolding after
 returns c =
@@ -27,4 +18,4 @@ returns c =
     passed-same (ap (bitOr (named .before .before .before .args .p .sources)) (rw (named .before .fences .ensures) at (named .one-if .ensures))) (c .reserved-after .ensures)
 
 pub after-spec : {M : Type 1} → statement M
-after-spec = tie.close (tie.spec fences-requires one-if-requires reserved-after-requires returns)
+after-spec = tie.close (tie.spec (λ c κs. search needs) (λ c κs. search needs) (λ c κs. search needs) returns)

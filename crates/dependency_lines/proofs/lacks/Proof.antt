@@ -6,11 +6,8 @@ use borrow.Author.Needs.{needs}
 use Rattle.dependency_lines.proofs.lacks.Statement.{statement}
 use Rattle.dependency_lines.proofs.lacks.Tie as tie
 
-within-requires : tie.Need-within-requires
-within-requires c κs = search needs
-
 returns : tie.Need-returns
 returns c = ap not (c .within .ensures) ∙ sym (Subset.lacks capacity _ _ (search needs))
 
 pub lacks-spec : {M : Type 1} → statement M
-lacks-spec = tie.close (tie.spec within-requires returns)
+lacks-spec = tie.close (tie.spec (λ c κs. search needs) returns)

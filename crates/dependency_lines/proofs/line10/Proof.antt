@@ -10,18 +10,6 @@ use borrow.Author.Needs.{needs}
 use Rattle.dependency_lines.proofs.line10.Statement.{statement}
 use Rattle.dependency_lines.proofs.line10.Tie as tie
 
-cast-if1 : tie.Need-cast-if1
-cast-if1 c = search needs
-
-mul-if1 : tie.Need-mul-if1
-mul-if1 c = search needs
-
-element-copy-out-if1 : tie.Need-element-copy-out-if1
-element-copy-out-if1 c = search needs
-
-some-paired-requires : tie.Need-some-paired-requires
-some-paired-requires c κs = search needs
-
 returns : tie.Need-returns
 unfolding line10 kind event
 returns c =
@@ -39,4 +27,4 @@ returns-2 c =
 pub line10-spec : {M : Type 1} → statement M
 line10-spec =
     tie.close
-    (tie.spec cast-if1 mul-if1 element-copy-out-if1 some-paired-requires returns returns-2)
+    (tie.spec (λ c. search needs) (λ c. search needs) (λ c. search needs) (λ c κs. search needs) returns returns-2)

@@ -6,27 +6,6 @@ use borrow.Author.Needs.{needs}
 use Rattle.dependency_lines.proofs.may_break.Statement.{statement}
 use Rattle.dependency_lines.proofs.may_break.Tie as tie
 
-named-requires : tie.Need-named-requires
-named-requires c κs = search needs
-
-lacks-requires : tie.Need-lacks-requires
-lacks-requires c κs = search needs
-
-writes-requires : tie.Need-writes-requires
-writes-requires c κs = search needs
-
-memory-requires : tie.Need-memory-requires
-memory-requires c κs = search needs
-
-lacks-requires-2 : tie.Need-lacks-requires-2
-lacks-requires-2 c κs = search needs
-
-cast-result : tie.Need-cast-result
-cast-result c = search needs
-
-add-result : tie.Need-add-result
-add-result c = search needs
-
 returns : tie.Need-returns
 unfolding mayBreak
 returns c =
@@ -45,11 +24,11 @@ pub may-break-spec : {M : Type 1} → statement M
 may-break-spec =
     tie.close
     (tie.spec
-    named-requires
-    lacks-requires
-    writes-requires
-    memory-requires
-    lacks-requires-2
-    cast-result
-    add-result
+    (λ c κs. search needs)
+    (λ c κs. search needs)
+    (λ c κs. search needs)
+    (λ c κs. search needs)
+    (λ c κs. search needs)
+    (λ c. search needs)
+    (λ c. search needs)
     returns)

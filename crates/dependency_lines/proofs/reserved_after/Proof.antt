@@ -4,12 +4,6 @@ use borrow.Author.Needs.{needs}
 use Rattle.dependency_lines.proofs.reserved_after.Statement.{statement}
 use Rattle.dependency_lines.proofs.reserved_after.Tie as tie
 
-cast-result : tie.Need-cast-result
-cast-result c = search needs
-
-add-result : tie.Need-add-result
-add-result c = search needs
-
 returns : tie.Need-returns
 unfolding reservedAfter
 returns c = rw (eq-eqb _ _ (c .before .if1 .taken))
@@ -23,4 +17,4 @@ unfolding reservedAfter
 returns-3 c = rw (ne-eqb _ _ (c .before .before .if1 .left), ne-eqb _ _ (c .if2 .left))
 
 pub reserved-after-spec : {M : Type 1} → statement M
-reserved-after-spec = tie.close (tie.spec cast-result add-result returns returns-2 returns-3)
+reserved-after-spec = tie.close (tie.spec (λ c. search needs) (λ c. search needs) returns returns-2 returns-3)

@@ -16,15 +16,6 @@ Inv-loop k t e j₀ j = Scanned (lacksControl t (k .0)) (t .count) j
 abbrev μ-loop : tie.MeasureT-loop
 μ-loop k t e j₀ j = (t .count) - j
 
-cast-e : tie.Need-cast-e Inv-loop μ-loop
-cast-e c = search needs
-
-mul-e : tie.Need-mul-e Inv-loop μ-loop
-mul-e c = search needs
-
-element-copy-out-e : tie.Need-element-copy-out-e Inv-loop μ-loop
-element-copy-out-e c = search needs
-
 returns : tie.Need-returns Inv-loop μ-loop
 unfolding event
 returns c = sym (some-none _ _ (λ j l. lacks-none _ _ j (c .if1 .taken)))
@@ -32,33 +23,9 @@ returns c = sym (some-none _ _ (λ j l. lacks-none _ _ j (c .if1 .taken)))
 loop-holds : tie.Need-loop-holds Inv-loop μ-loop
 loop-holds c = scan-start _ _
 
-cast-z : tie.Need-cast-z Inv-loop μ-loop
-cast-z c = search needs
-
-mul-z : tie.Need-mul-z Inv-loop μ-loop
-mul-z c = search needs
-
-element-copy-out-z : tie.Need-element-copy-out-z Inv-loop μ-loop
-element-copy-out-z c = search needs
-
-program-order-requires : tie.Need-program-order-requires Inv-loop μ-loop
-program-order-requires c κs = search needs
-
-memory-requires : tie.Need-memory-requires Inv-loop μ-loop
-memory-requires c κs = search needs
-
-lacks-requires : tie.Need-lacks-requires Inv-loop μ-loop
-lacks-requires c κs = search needs
-
 returns-2 : tie.Need-returns-2 Inv-loop μ-loop
 unfolding lacksControl po hart memory reads writes kind event
 returns-2 c = sym (some-hit _ _ _ (c .before .before .before .before .before .before .loop .inv) (omega arith) (rw (c .before .before .before .program-order .ensures, c .before .before .memory .ensures, c .before .lacks .ensures) at (c .if2 .taken)))
-
-add-j : tie.Need-add-j Inv-loop μ-loop
-add-j c = search needs
-
-loop-less : tie.Need-loop-less Inv-loop μ-loop
-loop-less c = search needs
 
 loop-again : tie.Need-loop-again Inv-loop μ-loop
 unfolding lacksControl po hart memory reads writes kind event
@@ -73,19 +40,19 @@ some-lacks-control-spec =
     (tie.spec
     Inv-loop
     μ-loop
-    cast-e
-    mul-e
-    element-copy-out-e
+    (λ c. search needs)
+    (λ c. search needs)
+    (λ c. search needs)
     returns
     loop-holds
-    cast-z
-    mul-z
-    element-copy-out-z
-    program-order-requires
-    memory-requires
-    lacks-requires
+    (λ c. search needs)
+    (λ c. search needs)
+    (λ c. search needs)
+    (λ c κs. search needs)
+    (λ c κs. search needs)
+    (λ c κs. search needs)
     returns-2
-    add-j
-    loop-less
+    (λ c. search needs)
+    (λ c. search needs)
     loop-again
     returns-3)

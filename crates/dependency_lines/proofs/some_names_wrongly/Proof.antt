@@ -31,41 +31,14 @@ whole c =
     wrong-named (a .t1) (a .k .0)
     ∙ ap (λ (x : ℕ). some capacity (λ m. bit x m && wrongly (a .t1) (a .k .0) m)) (sym (c .named .ensures))
 
-cast-e : tie.Need-cast-e Inv-loop μ-loop
-cast-e c = search needs
-
-mul-e : tie.Need-mul-e Inv-loop μ-loop
-mul-e c = search needs
-
-element-copy-out-e : tie.Need-element-copy-out-e Inv-loop μ-loop
-element-copy-out-e c = search needs
-
-named-requires : tie.Need-named-requires Inv-loop μ-loop
-named-requires c κs = search needs
-
 loop-holds : tie.Need-loop-holds Inv-loop μ-loop
 loop-holds c = (c .named .ok, refl)
-
-lowest-set-requires : tie.Need-lowest-set-requires Inv-loop μ-loop
-lowest-set-requires c κs = search needs
-
-cast-z : tie.Need-cast-z Inv-loop μ-loop
-cast-z c = search needs
-
-mul-z : tie.Need-mul-z Inv-loop μ-loop
-mul-z c = search needs
 
 element-copy-out-z : tie.Need-element-copy-out-z Inv-loop μ-loop
 element-copy-out-z c = lowest c
 
 cast-t19 : tie.Need-cast-t19 Inv-loop μ-loop
 cast-t19 c = omega (arith, lowest (c .before))
-
-program-order-requires : tie.Need-program-order-requires Inv-loop μ-loop
-program-order-requires c κs = search needs
-
-fences-requires : tie.Need-fences-requires Inv-loop μ-loop
-fences-requires c κs = search needs
 
 returns : tie.Need-returns Inv-loop μ-loop
 unfolding po hart kind event
@@ -99,18 +72,18 @@ some-names-wrongly-spec =
     (tie.spec
     Inv-loop
     μ-loop
-    cast-e
-    mul-e
-    element-copy-out-e
-    named-requires
+    (λ c. search needs)
+    (λ c. search needs)
+    (λ c. search needs)
+    (λ c κs. search needs)
     loop-holds
-    lowest-set-requires
-    cast-z
-    mul-z
+    (λ c κs. search needs)
+    (λ c. search needs)
+    (λ c. search needs)
     element-copy-out-z
     cast-t19
-    program-order-requires
-    fences-requires
+    (λ c κs. search needs)
+    (λ c κs. search needs)
     returns
     one-requires
     loop-less

@@ -14,42 +14,12 @@ Inv-loop k t e l₀ l = Scanned (pairedHere t (k .0)) (t .count) l
 abbrev μ-loop : tie.MeasureT-loop
 μ-loop k t e l₀ l = (t .count) - l
 
-cast-e : tie.Need-cast-e Inv-loop μ-loop
-cast-e c = search needs
-
-mul-e : tie.Need-mul-e Inv-loop μ-loop
-mul-e c = search needs
-
-element-copy-out-e : tie.Need-element-copy-out-e Inv-loop μ-loop
-element-copy-out-e c = search needs
-
 loop-holds : tie.Need-loop-holds Inv-loop μ-loop
 loop-holds c = scan-start _ _
-
-paired-requires : tie.Need-paired-requires Inv-loop μ-loop
-paired-requires c κs = search needs
-
-cast-same-location : tie.Need-cast-same-location Inv-loop μ-loop
-cast-same-location c = search needs
-
-mul-same-location : tie.Need-mul-same-location Inv-loop μ-loop
-mul-same-location c = search needs
-
-element-copy-out-same-location : tie.Need-element-copy-out-same-location Inv-loop μ-loop
-element-copy-out-same-location c = search needs
-
-same-location-requires : tie.Need-same-location-requires Inv-loop μ-loop
-same-location-requires c κs = search needs
 
 returns : tie.Need-returns Inv-loop μ-loop
 unfolding pairedHere sameLocation location event
 returns c = sym (some-hit _ _ _ (c .before .before .before .before .before .loop .inv) (omega arith) (rw (c .before .before .before .paired .ensures, c .before .same-location .ensures) at (c .if1 .taken)))
-
-add-l : tie.Need-add-l Inv-loop μ-loop
-add-l c = search needs
-
-loop-less : tie.Need-loop-less Inv-loop μ-loop
-loop-less c = search needs
 
 loop-again : tie.Need-loop-again Inv-loop μ-loop
 unfolding pairedHere sameLocation location event
@@ -64,17 +34,17 @@ some-paired-spec =
     (tie.spec
     Inv-loop
     μ-loop
-    cast-e
-    mul-e
-    element-copy-out-e
+    (λ c. search needs)
+    (λ c. search needs)
+    (λ c. search needs)
     loop-holds
-    paired-requires
-    cast-same-location
-    mul-same-location
-    element-copy-out-same-location
-    same-location-requires
+    (λ c κs. search needs)
+    (λ c. search needs)
+    (λ c. search needs)
+    (λ c. search needs)
+    (λ c κs. search needs)
     returns
-    add-l
-    loop-less
+    (λ c. search needs)
+    (λ c. search needs)
     loop-again
     returns-2)

@@ -3,21 +3,6 @@ use Rattle.encode.proofs.PutLaws.{sets-check}
 use Rattle.encode.proofs.put_check.Statement.{statement}
 use Rattle.encode.proofs.put_check.Tie as tie
 
-checksum-requires : tie.Need-checksum-requires
-checksum-requires c κs = search needs
-
-put-word-requires : tie.Need-put-word-requires
-put-word-requires c κs = search needs
-
-add-put-word : tie.Need-add-put-word
-add-put-word c = search needs
-
-put-word-requires-2 : tie.Need-put-word-requires-2
-put-word-requires-2 c κs = search needs
-
-same-length : tie.Need-same-length
-same-length c = search needs
-
 returns : tie.Need-returns
 returns c =
     let a = c .before .before .before .before .before .before .before .before .before .before .before .args in
@@ -27,9 +12,9 @@ pub put-check-spec : {M : Type 1} → statement M
 put-check-spec =
     tie.close
     (tie.spec
-    checksum-requires
-    put-word-requires
-    add-put-word
-    put-word-requires-2
-    same-length
+    (λ c κs. search needs)
+    (λ c κs. search needs)
+    (λ c. search needs)
+    (λ c κs. search needs)
+    (λ c. search needs)
     returns)

@@ -9,15 +9,6 @@ use Rattle.encode.specs.Encoded.{countBytes}
 use Rattle.encode.proofs.put_header.Statement.{statement}
 use Rattle.encode.proofs.put_header.Tie as tie
 
-put-marker-requires : tie.Need-put-marker-requires
-put-marker-requires c κs = search needs
-
-put-counts-requires : tie.Need-put-counts-requires
-put-counts-requires c κs = search needs
-
-slice-write-block : tie.Need-slice-write-block
-slice-write-block c = search needs
-
 slice-write-block-2 : tie.Need-slice-write-block-2
 slice-write-block-2 c =
     let t = c .before .before .before .before .before .before .before .before .before .args .t in
@@ -40,4 +31,4 @@ returns c =
 pub put-header-spec : {M : Type 1} → statement M
 put-header-spec =
     tie.close
-    (tie.spec put-marker-requires put-counts-requires slice-write-block slice-write-block-2 same-length returns)
+    (tie.spec (λ c κs. search needs) (λ c κs. search needs) (λ c. search needs) slice-write-block-2 same-length returns)

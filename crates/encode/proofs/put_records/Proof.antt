@@ -26,28 +26,10 @@ loop-holds c =
     let a = c .before .args in
     (omega arith, refl, begun-start (a .t2) (a .block .now) (c .before .pre))
 
-mul-put-record : tie.Need-mul-put-record Inv-loop μ-loop
-mul-put-record c = search needs
-
-add-put-record : tie.Need-add-put-record Inv-loop μ-loop
-add-put-record c = search needs
-
-mul-put-record-2 : tie.Need-mul-put-record-2 Inv-loop μ-loop
-mul-put-record-2 c = search needs
-
-element-copy-out-put-record : tie.Need-element-copy-out-put-record Inv-loop μ-loop
-element-copy-out-put-record c = search needs
-
 put-record-requires : tie.Need-put-record-requires Inv-loop μ-loop
 put-record-requires c κs =
     let a = c .before .before .before .before .before .args in
     omega (arith, length-begun-front (a .t2) (a .block .now) (c .before .before .before .before .before .pre))
-
-add-k : tie.Need-add-k Inv-loop μ-loop
-add-k c = search needs
-
-loop-less : tie.Need-loop-less Inv-loop μ-loop
-loop-less c = search needs
 
 loop-again : tie.Need-loop-again Inv-loop μ-loop
 unfolding event
@@ -55,9 +37,6 @@ loop-again c =
     let v = c .before .before .before .before .before .before .loop in
     let a = c .before .before .before .before .before .before .before .before .args in
     (omega arith, omega arith, begun-record (a .t2) (v .k) (v .block) (c .before .before .put-record .last .0) (omega arith) (v .inv .2) (c .before .before .put-record .ensures))
-
-same-length : tie.Need-same-length Inv-loop μ-loop
-same-length c = search needs
 
 returns : tie.Need-returns Inv-loop μ-loop
 returns c =
@@ -72,13 +51,13 @@ put-records-spec =
     Inv-loop
     μ-loop
     loop-holds
-    mul-put-record
-    add-put-record
-    mul-put-record-2
-    element-copy-out-put-record
+    (λ c. search needs)
+    (λ c. search needs)
+    (λ c. search needs)
+    (λ c. search needs)
     put-record-requires
-    add-k
-    loop-less
+    (λ c. search needs)
+    (λ c. search needs)
     loop-again
-    same-length
+    (λ c. search needs)
     returns)

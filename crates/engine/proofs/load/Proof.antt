@@ -14,17 +14,8 @@ Inv-loop pred succ mem start order₀ placed₀ can₀ len₀ order placed can l
 abbrev μ-loop : tie.MeasureT-loop
 μ-loop pred succ mem start order₀ placed₀ can₀ len₀ order placed can len = length start - len
 
-ready-of-requires : tie.Need-ready-of-requires Inv-loop μ-loop
-ready-of-requires c κs = search needs
-
 loop-holds : tie.Need-loop-holds Inv-loop μ-loop
 loop-holds c = read-none (c .before .before .pre .0) (c .before .before .pre .1) (c .ready-of .ensures)
-
-shared-slice-read-e : tie.Need-shared-slice-read-e Inv-loop μ-loop
-shared-slice-read-e c = search needs
-
-may-requires : tie.Need-may-requires Inv-loop μ-loop
-may-requires c κs = search needs
 
 returns : tie.Need-returns Inv-loop μ-loop
 returns c =
@@ -42,12 +33,6 @@ place-requires c κs =
     let i = c .before .before .before .before .loop .inv in
     (i .tables, i .holds .current, sym (c .before .may .ensures) ∙ not-false _ (c .if1 .left))
 
-add-len : tie.Need-add-len Inv-loop μ-loop
-add-len c = search needs
-
-loop-less : tie.Need-loop-less Inv-loop μ-loop
-loop-less c = search needs
-
 loop-again : tie.Need-loop-again Inv-loop μ-loop
 loop-again c =
     let d = c .before .before .before .before in
@@ -63,15 +48,15 @@ load-spec =
     (tie.spec
     Inv-loop
     μ-loop
-    ready-of-requires
+    (λ c κs. search needs)
     loop-holds
-    shared-slice-read-e
-    may-requires
+    (λ c. search needs)
+    (λ c κs. search needs)
     returns
     element-write-order
     cast-place
     place-requires
-    add-len
-    loop-less
+    (λ c. search needs)
+    (λ c. search needs)
     loop-again
     returns-2)

@@ -5,14 +5,8 @@ use borrow.Author.Needs.{needs}
 use Rattle.engine.proofs.may.Statement.{statement}
 use Rattle.engine.proofs.may.Tie as tie
 
-has-requires : tie.Need-has-requires
-has-requires c κs = search needs
-
-returns : tie.Need-returns
-returns c = search needs
-
 returns-2 : tie.Need-returns-2
 returns-2 c = sym (bit-past slots _ _ (c .before .fits .m .fits) (c .if1 .left))
 
 pub may-spec : {M : Type 1} → statement M
-may-spec = tie.close (tie.spec has-requires returns returns-2)
+may-spec = tie.close (tie.spec (λ c κs. search needs) (λ c. search needs) returns-2)

@@ -4,12 +4,6 @@ use borrow.Author.Needs.{needs}
 use Rattle.fact_rows.proofs.guard_row.Statement.{statement}
 use Rattle.fact_rows.proofs.guard_row.Tie as tie
 
-writes-requires : tie.Need-writes-requires
-writes-requires c κs = search needs
-
-less-requires : tie.Need-less-requires
-less-requires c κs = search needs
-
 returns : tie.Need-returns
 returns c = guard-some _ _ _ _ (sym (c .before .before .writes .ensures) ∙ c .before .if1 .taken) (c .less .ensures) refl
 
@@ -17,4 +11,4 @@ returns-2 : tie.Need-returns-2
 returns-2 c = guard-none _ _ (sym (c .before .writes .ensures) ∙ c .if1 .left)
 
 pub guard-row-spec : {M : Type 1} → statement M
-guard-row-spec = tie.close (tie.spec writes-requires less-requires returns returns-2)
+guard-row-spec = tie.close (tie.spec (λ c κs. search needs) (λ c κs. search needs) returns returns-2)

@@ -7,20 +7,8 @@ use Rattle.fact_rows.proofs.pair_row.Tie as tie
 returns : tie.Need-returns
 returns c = pair-other _ _ _ (c .if1 .taken)
 
-cast-under : tie.Need-cast-under
-cast-under c = search needs
-
-under-requires : tie.Need-under-requires
-under-requires c κs = search needs
-
 returns-2 : tie.Need-returns-2
 returns-2 c = pair-none _ (c .before .before .before .if1 .left) _ _ _ _ (c .before .under .ensures) refl (c .if2 .taken)
-
-highest-set-requires : tie.Need-highest-set-requires
-highest-set-requires c κs = search needs
-
-one-requires : tie.Need-one-requires
-one-requires c κs = search needs
 
 returns-3 : tie.Need-returns-3
 returns-3 c =
@@ -33,9 +21,9 @@ pair-row-spec =
     tie.close
     (tie.spec
     returns
-    cast-under
-    under-requires
+    (λ c. search needs)
+    (λ c κs. search needs)
     returns-2
-    highest-set-requires
-    one-requires
+    (λ c κs. search needs)
+    (λ c κs. search needs)
     returns-3)

@@ -4,18 +4,6 @@ use borrow.Author.Needs.{needs}
 use Rattle.fact_rows.proofs.peer_row.Statement.{statement}
 use Rattle.fact_rows.proofs.peer_row.Tie as tie
 
-writes-requires : tie.Need-writes-requires
-writes-requires c κs = search needs
-
-cast-one : tie.Need-cast-one
-cast-one c = search needs
-
-one-requires : tie.Need-one-requires
-one-requires c κs = search needs
-
-less-requires : tie.Need-less-requires
-less-requires c κs = search needs
-
 returns : tie.Need-returns
 returns c =
     peer-some _ _ _ (sym (c .before .before .before .before .before .writes .ensures) ∙ c .before .before .before .before .if1 .taken)
@@ -26,4 +14,11 @@ returns-2 c = peer-none _ (sym (c .before .writes .ensures) ∙ c .if1 .left)
 
 pub peer-row-spec : {M : Type 1} → statement M
 peer-row-spec =
-    tie.close (tie.spec writes-requires cast-one one-requires less-requires returns returns-2)
+    tie.close
+    (tie.spec
+    (λ c κs. search needs)
+    (λ c. search needs)
+    (λ c κs. search needs)
+    (λ c κs. search needs)
+    returns
+    returns-2)

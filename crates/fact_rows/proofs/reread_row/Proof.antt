@@ -17,20 +17,8 @@ lowest c =
     subst (λ (x : ℕ). x < capacity) (sym (c .lowest-set .ensures))
     (lowest-room _ (c .before .if2 .left) (lt-of-le-of-lt (and-le-r (bitAnd (a .writers) (a .place)) _) (c .before .before .before .before .from .ok)))
 
-reads-requires : tie.Need-reads-requires
-reads-requires c κs = search needs
-
 returns : tie.Need-returns
 returns c = reread-none _ (sym (c .before .reads .ensures) ∙ not-true _ (c .if1 .taken))
-
-cast-from : tie.Need-cast-from
-cast-from c = search needs
-
-add-from : tie.Need-add-from
-add-from c = search needs
-
-from-requires : tie.Need-from-requires
-from-requires c κs = search needs
 
 returns-2 : tie.Need-returns-2
 returns-2 c =
@@ -38,9 +26,6 @@ returns-2 c =
     reread-all _ (sym (k .before .reads .ensures) ∙ not-false _ (k .if1 .left)) _ _ _
     (c .before .before .before .from .ensures) refl refl
     (c .if2 .taken)
-
-lowest-set-requires : tie.Need-lowest-set-requires
-lowest-set-requires c κs = search needs
 
 under-requires : tie.Need-under-requires
 under-requires c κs = lowest c
@@ -60,13 +45,13 @@ pub reread-row-spec : {M : Type 1} → statement M
 reread-row-spec =
     tie.close
     (tie.spec
-    reads-requires
+    (λ c κs. search needs)
     returns
-    cast-from
-    add-from
-    from-requires
+    (λ c. search needs)
+    (λ c. search needs)
+    (λ c κs. search needs)
     returns-2
-    lowest-set-requires
+    (λ c κs. search needs)
     under-requires
     one-requires
     returns-3)

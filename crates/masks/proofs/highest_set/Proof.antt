@@ -7,8 +7,5 @@ use Rattle.masks.proofs.highest_set.Tie as tie
 sub-result : tie.Need-sub-result
 sub-result c = omega (arith, highest-set (c .args .m) (c .pre) (c .fits .m .fits) .0)
 
-returns : tie.Need-returns
-returns c = search needs
-
 pub highest-set-spec : {M : Type 1} → statement M
-highest-set-spec = tie.close (tie.spec sub-result returns)
+highest-set-spec = tie.close (tie.spec sub-result (λ c. search needs))

@@ -7,11 +7,8 @@ use borrow.Author.Needs.{needs}
 use Rattle.masks.proofs.one.Statement.{statement}
 use Rattle.masks.proofs.one.Tie as tie
 
-shl-result : tie.Need-shl-result
-shl-result c = search needs
-
 returns : tie.Need-returns
 returns c = ap (λ (x : ℕ). x % 2 ^ 32) (one-mul (2 ^ c .args .e)) ∙ mod-eq-of-lt (pow-lt (c .pre))
 
 pub one-spec : {M : Type 1} → statement M
-one-spec = tie.close (tie.spec shl-result returns)
+one-spec = tie.close (tie.spec (λ c. search needs) returns)

@@ -6,24 +6,6 @@ use borrow.Author.Needs.{needs}
 use Rattle.operation.proofs.apply.Statement.{statement}
 use Rattle.operation.proofs.apply.Tie as tie
 
-add-requires : tie.Need-add-requires
-add-requires c κs = search needs
-
-and-requires : tie.Need-and-requires
-and-requires c κs = search needs
-
-or-requires : tie.Need-or-requires
-or-requires c κs = search needs
-
-xor-requires : tie.Need-xor-requires
-xor-requires c κs = search needs
-
-maxu-requires : tie.Need-maxu-requires
-maxu-requires c κs = search needs
-
-minu-requires : tie.Need-minu-requires
-minu-requires c κs = search needs
-
 returns : tie.Need-returns
 unfolding applied
 returns c = rw (c .before .match .keys1) (c .add .ensures)
@@ -66,12 +48,12 @@ pub apply-spec : {M : Type 1} → statement M
 apply-spec =
     tie.close
     (tie.spec
-    add-requires
-    and-requires
-    or-requires
-    xor-requires
-    maxu-requires
-    minu-requires
+    (λ c κs. search needs)
+    (λ c κs. search needs)
+    (λ c κs. search needs)
+    (λ c κs. search needs)
+    (λ c κs. search needs)
+    (λ c κs. search needs)
     returns
     returns-2
     returns-3

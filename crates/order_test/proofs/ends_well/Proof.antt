@@ -44,20 +44,8 @@ room c =
     let start = c .before .before .before .before .before .before in
     entry-room (F start) (O start) (N start) (start .pre) _ (omega (arith, next (c .before), c .before .before .loop .inv .0))
 
-index-1-if1 : tie.Need-index-1-if1 Inv-loop μ-loop
-index-1-if1 c = search needs
-
-index-2-if1 : tie.Need-index-2-if1 Inv-loop μ-loop
-index-2-if1 c = search needs
-
 returns : tie.Need-returns Inv-loop μ-loop
 returns c = let start = c .before .before in end-unmet (F start) (O start) (N start) (c .if1 .taken)
-
-index-1-left : tie.Need-index-1-left Inv-loop μ-loop
-index-1-left c = search needs
-
-index-2-left : tie.Need-index-2-left Inv-loop μ-loop
-index-2-left c = search needs
 
 loop-holds : tie.Need-loop-holds Inv-loop μ-loop
 loop-holds c =
@@ -66,9 +54,6 @@ loop-holds c =
 
 sub-i : tie.Need-sub-i Inv-loop μ-loop
 sub-i c = omega (arith, next c)
-
-element-copy-out-e : tie.Need-element-copy-out-e Inv-loop μ-loop
-element-copy-out-e c = search needs
 
 cast-has : tie.Need-cast-has Inv-loop μ-loop
 cast-has c = omega (arith, room c)
@@ -89,14 +74,8 @@ cast-less c = omega (arith, room (c .before .before))
 mul-less : tie.Need-mul-less Inv-loop μ-loop
 mul-less c = record { fits = omega (arith, room (c .before .before)) }
 
-index-1-less : tie.Need-index-1-less Inv-loop μ-loop
-index-1-less c = search needs
-
 index-2-less : tie.Need-index-2-less Inv-loop μ-loop
 index-2-less c = omega (arith, room (c .before .before))
-
-less-requires : tie.Need-less-requires Inv-loop μ-loop
-less-requires c κs = search needs
 
 loop-less : tie.Need-loop-less Inv-loop μ-loop
 loop-less c = omega (arith, next (c .before .before .before .before .before))
@@ -119,22 +98,22 @@ ends-well-spec =
     (tie.spec
     Inv-loop
     μ-loop
-    index-1-if1
-    index-2-if1
+    (λ c. search needs)
+    (λ c. search needs)
     returns
-    index-1-left
-    index-2-left
+    (λ c. search needs)
+    (λ c. search needs)
     loop-holds
     sub-i
-    element-copy-out-e
+    (λ c. search needs)
     cast-has
     has-requires
     returns-2
     cast-less
     mul-less
-    index-1-less
+    (λ c. search needs)
     index-2-less
-    less-requires
+    (λ c κs. search needs)
     loop-less
     loop-again
     returns-3)

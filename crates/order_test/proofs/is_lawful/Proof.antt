@@ -39,9 +39,6 @@ room c =
 loop-holds : tie.Need-loop-holds Inv-loop μ-loop
 loop-holds c = (placed-start (F c) (O c) (N c), pass-start (F c) (O c) (N c) lawfulAt)
 
-element-copy-out-e : tie.Need-element-copy-out-e Inv-loop μ-loop
-element-copy-out-e c = search needs
-
 may-place-requires : tie.Need-may-place-requires Inv-loop μ-loop
 may-place-requires c κs = room c
 
@@ -59,12 +56,6 @@ cast-one c = omega (arith, room (c .before .before))
 
 one-requires : tie.Need-one-requires Inv-loop μ-loop
 one-requires c κs = room (c .before .before)
-
-add-i : tie.Need-add-i Inv-loop μ-loop
-add-i c = search needs
-
-loop-less : tie.Need-loop-less Inv-loop μ-loop
-loop-less c = search needs
 
 loop-again : tie.Need-loop-again Inv-loop μ-loop
 loop-again c =
@@ -91,12 +82,12 @@ is-lawful-spec =
     Inv-loop
     μ-loop
     loop-holds
-    element-copy-out-e
+    (λ c. search needs)
     may-place-requires
     returns
     cast-one
     one-requires
-    add-i
-    loop-less
+    (λ c. search needs)
+    (λ c. search needs)
     loop-again
     returns-2)

@@ -45,12 +45,6 @@ returns c =
     let start = c .before .before in
     witness-ends (F start) (O start) (N start) _ (c .before .ends-well .ensures) (not-true _ (c .if1 .taken))
 
-index-1-good : tie.Need-index-1-good Inv-loop μ-loop
-index-1-good c = search needs
-
-index-2-good : tie.Need-index-2-good Inv-loop μ-loop
-index-2-good c = search needs
-
 loop-holds : tie.Need-loop-holds Inv-loop μ-loop
 loop-holds c =
     let start = c .before .before .before in (
@@ -58,9 +52,6 @@ loop-holds c =
       good-start (F start) (O start) (N start),
       pass-start (F start) (O start) (N start) witnessAt,
     )
-
-element-copy-out-e : tie.Need-element-copy-out-e Inv-loop μ-loop
-element-copy-out-e c = search needs
 
 may-stand-requires : tie.Need-may-stand-requires Inv-loop μ-loop
 may-stand-requires c κs = room c
@@ -87,12 +78,6 @@ one-requires c κs = room (c .before .before)
 
 good-after-requires : tie.Need-good-after-requires Inv-loop μ-loop
 good-after-requires c κs = room (c .before .before .before)
-
-add-i : tie.Need-add-i Inv-loop μ-loop
-add-i c = search needs
-
-loop-less : tie.Need-loop-less Inv-loop μ-loop
-loop-less c = search needs
 
 loop-again : tie.Need-loop-again Inv-loop μ-loop
 loop-again c =
@@ -125,16 +110,16 @@ is-witness-spec =
     μ-loop
     ends-well-requires
     returns
-    index-1-good
-    index-2-good
+    (λ c. search needs)
+    (λ c. search needs)
     loop-holds
-    element-copy-out-e
+    (λ c. search needs)
     may-stand-requires
     returns-2
     cast-one
     one-requires
     good-after-requires
-    add-i
-    loop-less
+    (λ c. search needs)
+    (λ c. search needs)
     loop-again
     returns-3)

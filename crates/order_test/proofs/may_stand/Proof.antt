@@ -3,12 +3,6 @@ use borrow.Author.Needs.{needs}
 use Rattle.order_test.proofs.may_stand.Statement.{statement}
 use Rattle.order_test.proofs.may_stand.Tie as tie
 
-reads-stated-requires : tie.Need-reads-stated-requires
-reads-stated-requires c κs = search needs
-
-may-place-requires : tie.Need-may-place-requires
-may-place-requires c κs = search needs
-
 returns : tie.Need-returns
 returns c =
     tell-stands _ _ _ (tell-stated _ _ _ (c .before .before .reads-stated .ensures)) _ (c .may-place .ensures) (c .before .if1 .taken)
@@ -19,4 +13,4 @@ returns-2 c = tell-falls _ _ _ (tell-stated _ _ _ (c .before .reads-stated .ensu
 pub may-stand-spec : {M : Type 1} → statement M
 may-stand-spec =
     tie.close
-    (tie.spec reads-stated-requires may-place-requires returns returns-2)
+    (tie.spec (λ c κs. search needs) (λ c κs. search needs) returns returns-2)

@@ -20,23 +20,8 @@ abbrev μ-loop : tie.MeasureT-loop
 lowest : (c : tie.After-lowest-set Inv-loop μ-loop) → c .lowest-set .result < capacity
 lowest c = left-lowest _ _ _ _ _ (c .before .before .loop .inv) (omega arith) (c .lowest-set .ensures) .0
 
-mul-less : tie.Need-mul-less Inv-loop μ-loop
-mul-less c = search needs
-
-index-1-less : tie.Need-index-1-less Inv-loop μ-loop
-index-1-less c = search needs
-
-index-2-less : tie.Need-index-2-less Inv-loop μ-loop
-index-2-less c = search needs
-
-less-requires : tie.Need-less-requires Inv-loop μ-loop
-less-requires c κs = search needs
-
 loop-holds : tie.Need-loop-holds Inv-loop μ-loop
 loop-holds c = (c .less .ok, refl)
-
-lowest-set-requires : tie.Need-lowest-set-requires Inv-loop μ-loop
-lowest-set-requires c κs = search needs
 
 is-open-requires : tie.Need-is-open-requires Inv-loop μ-loop
 is-open-requires c κs = lowest c
@@ -72,12 +57,12 @@ may-write-spec =
     (tie.spec
     Inv-loop
     μ-loop
-    mul-less
-    index-1-less
-    index-2-less
-    less-requires
+    (λ c. search needs)
+    (λ c. search needs)
+    (λ c. search needs)
+    (λ c κs. search needs)
     loop-holds
-    lowest-set-requires
+    (λ c κs. search needs)
     is-open-requires
     returns
     one-requires

@@ -4,14 +4,8 @@ use borrow.Author.Needs.{needs}
 use Rattle.overlap.proofs.rule1.Statement.{statement}
 use Rattle.overlap.proofs.rule1.Tie as tie
 
-writes-requires : tie.Need-writes-requires
-writes-requires c κs = search needs
-
-same-location-requires : tie.Need-same-location-requires
-same-location-requires c κs = search needs
-
 returns : tie.Need-returns
 returns c = ap₂ _&&_ (c .before .writes .ensures) (c .same-location .ensures)
 
 pub rule1-spec : {M : Type 1} → statement M
-rule1-spec = tie.close (tie.spec writes-requires same-location-requires returns)
+rule1-spec = tie.close (tie.spec (λ c κs. search needs) (λ c κs. search needs) returns)

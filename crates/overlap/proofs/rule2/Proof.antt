@@ -6,42 +6,6 @@ use borrow.Author.Needs.{needs}
 use Rattle.overlap.proofs.rule2.Statement.{statement}
 use Rattle.overlap.proofs.rule2.Tie as tie
 
-cast-x : tie.Need-cast-x
-cast-x c = search needs
-
-mul-x : tie.Need-mul-x
-mul-x c = search needs
-
-element-copy-out-x : tie.Need-element-copy-out-x
-element-copy-out-x c = search needs
-
-cast-y : tie.Need-cast-y
-cast-y c = search needs
-
-mul-y : tie.Need-mul-y
-mul-y c = search needs
-
-element-copy-out-y : tie.Need-element-copy-out-y
-element-copy-out-y c = search needs
-
-returned-from-requires : tie.Need-returned-from-requires
-returned-from-requires c κs = search needs
-
-returned-from-requires-2 : tie.Need-returned-from-requires-2
-returned-from-requires-2 c κs = search needs
-
-reads-requires : tie.Need-reads-requires
-reads-requires c κs = search needs
-
-reads-requires-2 : tie.Need-reads-requires-2
-reads-requires-2 c κs = search needs
-
-same-location-requires : tie.Need-same-location-requires
-same-location-requires c κs = search needs
-
-some-overwrites-requires : tie.Need-some-overwrites-requires
-some-overwrites-requires c κs = search needs
-
 returns : tie.Need-returns
 unfolding ofEvents
 returns c =
@@ -71,17 +35,17 @@ pub rule2-spec : {M : Type 1} → statement M
 rule2-spec =
     tie.close
     (tie.spec
-    cast-x
-    mul-x
-    element-copy-out-x
-    cast-y
-    mul-y
-    element-copy-out-y
-    returned-from-requires
-    returned-from-requires-2
-    reads-requires
-    reads-requires-2
-    same-location-requires
-    some-overwrites-requires
+    (λ c. search needs)
+    (λ c. search needs)
+    (λ c. search needs)
+    (λ c. search needs)
+    (λ c. search needs)
+    (λ c. search needs)
+    (λ c κs. search needs)
+    (λ c κs. search needs)
+    (λ c κs. search needs)
+    (λ c κs. search needs)
+    (λ c κs. search needs)
+    (λ c κs. search needs)
     returns
     returns-2)

@@ -7,22 +7,13 @@ use borrow.Author.Needs.{needs}
 use Rattle.pair_rules.proofs.pair.Statement.{statement}
 use Rattle.pair_rules.proofs.pair.Tie as tie
 
-cast-if1 : tie.Need-cast-if1
-cast-if1 c = search needs
-
 returns : tie.Need-returns
 unfolding returnedLengthWrong
 returns c = pair-12 _ _ _ _ (ap not (ne-eqb _ _ (c .if1 .taken)))
 
-returned-wrong-requires : tie.Need-returned-wrong-requires
-returned-wrong-requires c κs = search needs
-
 returns-2 : tie.Need-returns-2
 unfolding returnedLengthWrong
 returns-2 c = pair-14 _ _ _ _ (ap not (eq-eqb _ _ (c .before .before .if1 .left))) (sym (c .before .returned-wrong .ensures) ∙ c .if2 .taken)
-
-held-requires : tie.Need-held-requires
-held-requires c κs = search needs
 
 returns-3 : tie.Need-returns-3
 unfolding returnedLengthWrong
@@ -30,4 +21,4 @@ returns-3 c = pair-none _ _ _ _ (ap not (eq-eqb _ _ (c .before .before .before .
 
 pub pair-spec : {M : Type 1} → statement M
 pair-spec =
-    tie.close (tie.spec cast-if1 returns returned-wrong-requires returns-2 held-requires returns-3)
+    tie.close (tie.spec (λ c. search needs) returns (λ c κs. search needs) returns-2 (λ c κs. search needs) returns-3)

@@ -7,24 +7,6 @@ use borrow.Author.Needs.{needs}
 use Rattle.pipeline.proofs.rule12.Statement.{statement}
 use Rattle.pipeline.proofs.rule12.Tie as tie
 
-cast-reads : tie.Need-cast-reads
-cast-reads c = search needs
-
-mul-reads : tie.Need-mul-reads
-mul-reads c = search needs
-
-element-copy-out-reads : tie.Need-element-copy-out-reads
-element-copy-out-reads c = search needs
-
-reads-requires : tie.Need-reads-requires
-reads-requires c κs = search needs
-
-returned-from-requires : tie.Need-returned-from-requires
-returned-from-requires c κs = search needs
-
-some-forwards-requires : tie.Need-some-forwards-requires
-some-forwards-requires c κs = search needs
-
 returns : tie.Need-returns
 unfolding rule12 forwards ofEvents
 returns c =
@@ -39,11 +21,11 @@ pub rule12-spec : {M : Type 1} → statement M
 rule12-spec =
     tie.close
     (tie.spec
-    cast-reads
-    mul-reads
-    element-copy-out-reads
-    reads-requires
-    returned-from-requires
-    some-forwards-requires
+    (λ c. search needs)
+    (λ c. search needs)
+    (λ c. search needs)
+    (λ c κs. search needs)
+    (λ c κs. search needs)
+    (λ c κs. search needs)
     returns
     returns-2)

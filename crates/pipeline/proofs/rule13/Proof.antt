@@ -7,21 +7,6 @@ use borrow.Author.Needs.{needs}
 use Rattle.pipeline.proofs.rule13.Statement.{statement}
 use Rattle.pipeline.proofs.rule13.Tie as tie
 
-cast-writes : tie.Need-cast-writes
-cast-writes c = search needs
-
-mul-writes : tie.Need-mul-writes
-mul-writes c = search needs
-
-element-copy-out-writes : tie.Need-element-copy-out-writes
-element-copy-out-writes c = search needs
-
-writes-requires : tie.Need-writes-requires
-writes-requires c κs = search needs
-
-some-addresses-requires : tie.Need-some-addresses-requires
-some-addresses-requires c κs = search needs
-
 returns : tie.Need-returns
 unfolding rule13 addresses ofEvents
 returns c = c .some-addresses .ensures ∙ and-taken _ _ (sym (c .before .before .writes .ensures) ∙ c .before .if1 .taken)
@@ -34,10 +19,10 @@ pub rule13-spec : {M : Type 1} → statement M
 rule13-spec =
     tie.close
     (tie.spec
-    cast-writes
-    mul-writes
-    element-copy-out-writes
-    writes-requires
-    some-addresses-requires
+    (λ c. search needs)
+    (λ c. search needs)
+    (λ c. search needs)
+    (λ c κs. search needs)
+    (λ c κs. search needs)
     returns
     returns-2)

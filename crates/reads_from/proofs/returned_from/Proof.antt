@@ -4,14 +4,8 @@ use borrow.Author.Needs.{needs}
 use Rattle.reads_from.proofs.returned_from.Statement.{statement}
 use Rattle.reads_from.proofs.returned_from.Tie as tie
 
-cast-result : tie.Need-cast-result
-cast-result c = search needs
-
-shared-slice-read-result : tie.Need-shared-slice-read-result
-shared-slice-read-result c = search needs
-
 returns : tie.Need-returns
 returns c = from-at _ _ (omega arith)
 
 pub returned-from-spec : {M : Type 1} → statement M
-returned-from-spec = tie.close (tie.spec cast-result shared-slice-read-result returns)
+returned-from-spec = tie.close (tie.spec (λ c. search needs) (λ c. search needs) returns)

@@ -16,14 +16,8 @@ below c = can-below (c .pre .0) _ _ _ (c .pre .1) (c .pre .2)
 one-requires : tie.Need-one-requires
 one-requires c κs = omega (arith, below c)
 
-mul-ready-of : tie.Need-mul-ready-of
-mul-ready-of c = search needs
-
 element-copy-out-ready-of : tie.Need-element-copy-out-ready-of
 element-copy-out-ready-of c = omega (arith, below (c .before))
-
-ready-of-requires : tie.Need-ready-of-requires
-ready-of-requires c κs = search needs
 
 returns : tie.Need-returns
 returns c =
@@ -40,4 +34,4 @@ returns c =
 pub place-spec : {M : Type 1} → statement M
 place-spec =
     tie.close
-    (tie.spec one-requires mul-ready-of element-copy-out-ready-of ready-of-requires returns)
+    (tie.spec one-requires (λ c. search needs) element-copy-out-ready-of (λ c κs. search needs) returns)

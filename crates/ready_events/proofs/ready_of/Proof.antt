@@ -14,25 +14,13 @@ abbrev μ-loop : tie.MeasureT-loop
 loop-holds : tie.Need-loop-holds Inv-loop μ-loop
 loop-holds c = sift-start _ (search needs)
 
-lowest-set-requires : tie.Need-lowest-set-requires Inv-loop μ-loop
-lowest-set-requires c κs = search needs
-
 one-requires : tie.Need-one-requires Inv-loop μ-loop
 one-requires c κs = taken (c .before .before .loop .inv) (c .before .loop-test .taken) (c .lowest-set .ensures) .0
-
-cast-within : tie.Need-cast-within Inv-loop μ-loop
-cast-within c = search needs
-
-mul-within : tie.Need-mul-within Inv-loop μ-loop
-mul-within c = search needs
 
 element-copy-out-within : tie.Need-element-copy-out-within Inv-loop μ-loop
 element-copy-out-within c =
     let d = c .before in
     taken (d .before .before .loop .inv) (d .before .loop-test .taken) (d .lowest-set .ensures) .0
-
-within-requires : tie.Need-within-requires Inv-loop μ-loop
-within-requires c κs = search needs
 
 loop-less : tie.Need-loop-less Inv-loop μ-loop
 loop-less c =
@@ -72,12 +60,12 @@ ready-of-spec =
     Inv-loop
     μ-loop
     loop-holds
-    lowest-set-requires
+    (λ c κs. search needs)
     one-requires
-    cast-within
-    mul-within
+    (λ c. search needs)
+    (λ c. search needs)
     element-copy-out-within
-    within-requires
+    (λ c κs. search needs)
     loop-less
     loop-again
     loop-less-2

@@ -6,20 +6,8 @@ use borrow.Author.Needs.{needs}
 use Rattle.record_bytes.proofs.put_operation.Statement.{statement}
 use Rattle.record_bytes.proofs.put_operation.Tie as tie
 
-add-block : tie.Need-add-block
-add-block c = search needs
-
-slice-write-block : tie.Need-slice-write-block
-slice-write-block c = search needs
-
-add-block-2 : tie.Need-add-block-2
-add-block-2 c = search needs
-
 slice-write-block-2 : tie.Need-slice-write-block-2
 slice-write-block-2 c = omega (arith, c .pre, length-set (c .args .block .now) (c .args .at + 14) (c .args .e .operation))
-
-same-length : tie.Need-same-length
-same-length c = search needs
 
 returns : tie.Need-returns
 returns c =
@@ -30,4 +18,10 @@ returns c =
 pub put-operation-spec : {M : Type 1} → statement M
 put-operation-spec =
     tie.close
-    (tie.spec add-block slice-write-block add-block-2 slice-write-block-2 same-length returns)
+    (tie.spec
+    (λ c. search needs)
+    (λ c. search needs)
+    (λ c. search needs)
+    slice-write-block-2
+    (λ c. search needs)
+    returns)

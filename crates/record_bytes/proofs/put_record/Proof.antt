@@ -8,36 +8,6 @@ use Rattle.record_bytes.proofs.SetLaws.{sets-more}
 use Rattle.record_bytes.proofs.put_record.Statement.{statement}
 use Rattle.record_bytes.proofs.put_record.Tie as tie
 
-put-codes-requires : tie.Need-put-codes-requires
-put-codes-requires c κs = search needs
-
-put-masks-requires : tie.Need-put-masks-requires
-put-masks-requires c κs = search needs
-
-add-put-word : tie.Need-add-put-word
-add-put-word c = search needs
-
-cast-put-word : tie.Need-cast-put-word
-cast-put-word c = search needs
-
-put-word-requires : tie.Need-put-word-requires
-put-word-requires c κs = search needs
-
-add-put-word-2 : tie.Need-add-put-word-2
-add-put-word-2 c = search needs
-
-cast-put-word-2 : tie.Need-cast-put-word-2
-cast-put-word-2 c = search needs
-
-put-word-requires-2 : tie.Need-put-word-requires-2
-put-word-requires-2 c κs = search needs
-
-put-operation-requires : tie.Need-put-operation-requires
-put-operation-requires c κs = search needs
-
-same-length : tie.Need-same-length
-same-length c = search needs
-
 returns : tie.Need-returns
 unfolding recordBytes
 returns c =
@@ -62,14 +32,14 @@ pub put-record-spec : {M : Type 1} → statement M
 put-record-spec =
     tie.close
     (tie.spec
-    put-codes-requires
-    put-masks-requires
-    add-put-word
-    cast-put-word
-    put-word-requires
-    add-put-word-2
-    cast-put-word-2
-    put-word-requires-2
-    put-operation-requires
-    same-length
+    (λ c κs. search needs)
+    (λ c κs. search needs)
+    (λ c. search needs)
+    (λ c. search needs)
+    (λ c κs. search needs)
+    (λ c. search needs)
+    (λ c. search needs)
+    (λ c κs. search needs)
+    (λ c κs. search needs)
+    (λ c. search needs)
     returns)

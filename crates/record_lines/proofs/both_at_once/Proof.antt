@@ -4,21 +4,15 @@ use borrow.Author.Needs.{needs}
 use Rattle.record_lines.proofs.both_at_once.Statement.{statement}
 use Rattle.record_lines.proofs.both_at_once.Tie as tie
 
-has-requires : tie.Need-has-requires
-has-requires c κs = search needs
-
-has-requires-2 : tie.Need-has-requires-2
-has-requires-2 c κs = search needs
-
-has-requires-3 : tie.Need-has-requires-3
-has-requires-3 c κs = search needs
-
-has-requires-4 : tie.Need-has-requires-4
-has-requires-4 c κs = search needs
-
 returns : tie.Need-returns
 returns c = ap₂ _||_ (ap₂ _&&_ (c .before .before .before .has .ensures) (c .before .before .has2 .ensures)) (ap₂ _&&_ (c .before .has3 .ensures) (c .has4 .ensures))
 
 pub both-at-once-spec : {M : Type 1} → statement M
 both-at-once-spec =
-    tie.close (tie.spec has-requires has-requires-2 has-requires-3 has-requires-4 returns)
+    tie.close
+    (tie.spec
+    (λ c κs. search needs)
+    (λ c κs. search needs)
+    (λ c κs. search needs)
+    (λ c κs. search needs)
+    returns)

@@ -5,15 +5,9 @@ use borrow.Author.Needs.{needs}
 use Rattle.record_lines.proofs.line7.Statement.{statement}
 use Rattle.record_lines.proofs.line7.Tie as tie
 
-shape-wrong-requires : tie.Need-shape-wrong-requires
-shape-wrong-requires c κs = search needs
-
-not-applied-requires : tie.Need-not-applied-requires
-not-applied-requires c κs = search needs
-
 returns : tie.Need-returns
 unfolding fieldsWrong
 returns c = ap₂ _||_ (c .before .shape-wrong .ensures) (c .not-applied .ensures)
 
 pub line7-spec : {M : Type 1} → statement M
-line7-spec = tie.close (tie.spec shape-wrong-requires not-applied-requires returns)
+line7-spec = tie.close (tie.spec (λ c κs. search needs) (λ c κs. search needs) returns)

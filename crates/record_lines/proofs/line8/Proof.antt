@@ -12,18 +12,6 @@ wrong-same : (l s m n b d a x r y : Bool) → m ≡ n → b ≡ d → a ≡ x �
     → (m && (b || l && r && not a || s && a && not r)) ≡ (n && (d || l && y && not x || s && x && not y))
 wrong-same l s m n b d a x r y e f g h = cc
 
-acquires-requires : tie.Need-acquires-requires
-acquires-requires c κs = search needs
-
-releases-requires : tie.Need-releases-requires
-releases-requires c κs = search needs
-
-memory-requires : tie.Need-memory-requires
-memory-requires c κs = search needs
-
-both-at-once-requires : tie.Need-both-at-once-requires
-both-at-once-requires c κs = search needs
-
 returns : tie.Need-returns
 unfolding annotationsWrong bothAtOnce loadReleases writerAcquires
 returns c =
@@ -35,8 +23,8 @@ pub line8-spec : {M : Type 1} → statement M
 line8-spec =
     tie.close
     (tie.spec
-    acquires-requires
-    releases-requires
-    memory-requires
-    both-at-once-requires
+    (λ c κs. search needs)
+    (λ c κs. search needs)
+    (λ c κs. search needs)
+    (λ c κs. search needs)
     returns)

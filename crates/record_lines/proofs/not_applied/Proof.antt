@@ -3,12 +3,9 @@ use borrow.Author.Needs.{needs}
 use Rattle.record_lines.proofs.not_applied.Statement.{statement}
 use Rattle.record_lines.proofs.not_applied.Tie as tie
 
-apply-requires : tie.Need-apply-requires
-apply-requires c κs = search needs
-
 returns : tie.Need-returns
 unfolding notApplied
 returns c = cc
 
 pub not-applied-spec : {M : Type 1} → statement M
-not-applied-spec = tie.close (tie.spec apply-requires returns)
+not-applied-spec = tie.close (tie.spec (λ c κs. search needs) returns)

@@ -4,14 +4,8 @@ use borrow.Author.Needs.{needs}
 use Rattle.record_lines.proofs.releases.Statement.{statement}
 use Rattle.record_lines.proofs.releases.Tie as tie
 
-has-requires : tie.Need-has-requires
-has-requires c κs = search needs
-
-has-requires-2 : tie.Need-has-requires-2
-has-requires-2 c κs = search needs
-
 returns : tie.Need-returns
 returns c = ap₂ _||_ (c .before .has .ensures) (c .has2 .ensures)
 
 pub releases-spec : {M : Type 1} → statement M
-releases-spec = tie.close (tie.spec has-requires has-requires-2 returns)
+releases-spec = tie.close (tie.spec (λ c κs. search needs) (λ c κs. search needs) returns)

@@ -5,15 +5,9 @@ use borrow.Author.Needs.{needs}
 use Rattle.record_lines.proofs.value_not_zero.Statement.{statement}
 use Rattle.record_lines.proofs.value_not_zero.Tie as tie
 
-reads-requires : tie.Need-reads-requires
-reads-requires c κs = search needs
-
-writes-requires : tie.Need-writes-requires
-writes-requires c κs = search needs
-
 returns : tie.Need-returns
 unfolding valueNotZero
 returns c = ap₂ _||_ (ap₂ _&&_ (ap not (c .before .before .before .reads .ensures)) refl) (ap₂ _&&_ (ap not (c .before .writes .ensures)) refl)
 
 pub value-not-zero-spec : {M : Type 1} → statement M
-value-not-zero-spec = tie.close (tie.spec reads-requires writes-requires returns)
+value-not-zero-spec = tie.close (tie.spec (λ c κs. search needs) (λ c κs. search needs) returns)

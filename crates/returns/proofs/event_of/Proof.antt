@@ -6,24 +6,9 @@ use borrow.Author.Needs.{needs}
 use Rattle.returns.proofs.event_of.Statement.{statement}
 use Rattle.returns.proofs.event_of.Tie as tie
 
-cast-if1 : tie.Need-cast-if1
-cast-if1 c = search needs
-
-cast-result : tie.Need-cast-result
-cast-result c = search needs
-
-mul-result : tie.Need-mul-result
-mul-result c = search needs
-
-element-copy-out-result : tie.Need-element-copy-out-result
-element-copy-out-result c = search needs
-
 returns : tie.Need-returns
 unfolding event
 returns c = search needs
-
-no-event-requires : tie.Need-no-event-requires
-no-event-requires c κs = search needs
 
 -- past the table's slots, the sixth field, the definition has blank events too
 returns-2 : tie.Need-returns-2
@@ -37,4 +22,11 @@ returns-2 c =
 pub event-of-spec : {M : Type 1} → statement M
 event-of-spec =
     tie.close
-    (tie.spec cast-if1 cast-result mul-result element-copy-out-result returns no-event-requires returns-2)
+    (tie.spec
+    (λ c. search needs)
+    (λ c. search needs)
+    (λ c. search needs)
+    (λ c. search needs)
+    returns
+    (λ c κs. search needs)
+    returns-2)

@@ -7,18 +7,6 @@ use borrow.Author.Needs.{needs}
 use Rattle.returns.proofs.initial_value.Statement.{statement}
 use Rattle.returns.proofs.initial_value.Tie as tie
 
-cast-if1 : tie.Need-cast-if1
-cast-if1 c = search needs
-
-cast-result : tie.Need-cast-result
-cast-result c = search needs
-
-mul-result : tie.Need-mul-result
-mul-result c = search needs
-
-element-copy-out-result : tie.Need-element-copy-out-result
-element-copy-out-result c = search needs
-
 returns : tie.Need-returns
 unfolding initialValue
 returns c = search needs
@@ -33,4 +21,11 @@ returns-2 c =
 
 pub initial-value-spec : {M : Type 1} → statement M
 initial-value-spec =
-    tie.close (tie.spec cast-if1 cast-result mul-result element-copy-out-result returns returns-2)
+    tie.close
+    (tie.spec
+    (λ c. search needs)
+    (λ c. search needs)
+    (λ c. search needs)
+    (λ c. search needs)
+    returns
+    returns-2)

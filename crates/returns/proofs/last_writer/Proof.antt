@@ -16,24 +16,6 @@ Inv-loop t gmo x latest₀ i₀ latest i = LastSoFar (writesTo t (x .0)) initial
 abbrev μ-loop : tie.MeasureT-loop
 μ-loop t gmo x latest₀ i₀ latest i = length gmo - i
 
-loop-holds : tie.Need-loop-holds Inv-loop μ-loop
-loop-holds c = search needs
-
-shared-slice-read-t10 : tie.Need-shared-slice-read-t10 Inv-loop μ-loop
-shared-slice-read-t10 c = search needs
-
-writes-to-requires : tie.Need-writes-to-requires Inv-loop μ-loop
-writes-to-requires c κs = search needs
-
-shared-slice-read-latest : tie.Need-shared-slice-read-latest Inv-loop μ-loop
-shared-slice-read-latest c = search needs
-
-add-i : tie.Need-add-i Inv-loop μ-loop
-add-i c = search needs
-
-loop-less : tie.Need-loop-less Inv-loop μ-loop
-loop-less c = search needs
-
 loop-again : tie.Need-loop-again Inv-loop μ-loop
 loop-again c =
     let v = c .before .before .before .before .loop in (
@@ -53,11 +35,11 @@ last-writer-spec =
     (tie.spec
     Inv-loop
     μ-loop
-    loop-holds
-    shared-slice-read-t10
-    writes-to-requires
-    shared-slice-read-latest
-    add-i
-    loop-less
+    (λ c. search needs)
+    (λ c. search needs)
+    (λ c κs. search needs)
+    (λ c. search needs)
+    (λ c. search needs)
+    (λ c. search needs)
     loop-again
     returns)

@@ -5,21 +5,6 @@ use borrow.Author.Needs.{needs}
 use Rattle.returns.proofs.return_entry.Statement.{statement}
 use Rattle.returns.proofs.return_entry.Tie as tie
 
-cast-reads : tie.Need-cast-reads
-cast-reads c = search needs
-
-mul-reads : tie.Need-mul-reads
-mul-reads c = search needs
-
-element-copy-out-reads : tie.Need-element-copy-out-reads
-element-copy-out-reads c = search needs
-
-reads-requires : tie.Need-reads-requires
-reads-requires c κs = search needs
-
-return-of-requires : tie.Need-return-of-requires
-return-of-requires c κs = search needs
-
 returns : tie.Need-returns
 unfolding returnEntry reads kind event
 returns c = rw (sym (c .before .before .reads .ensures) ∙ c .before .if1 .taken) (c .return-of .ensures)
@@ -32,10 +17,10 @@ pub return-entry-spec : {M : Type 1} → statement M
 return-entry-spec =
     tie.close
     (tie.spec
-    cast-reads
-    mul-reads
-    element-copy-out-reads
-    reads-requires
-    return-of-requires
+    (λ c. search needs)
+    (λ c. search needs)
+    (λ c. search needs)
+    (λ c κs. search needs)
+    (λ c κs. search needs)
     returns
     returns-2)

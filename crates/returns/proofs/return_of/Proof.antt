@@ -18,29 +18,11 @@ Inv-loop gmo r t y latest₀ i₀ latest i = LastSoFar (visible t gmo (r .0)) in
 abbrev μ-loop : tie.MeasureT-loop
 μ-loop gmo r t y latest₀ i₀ latest i = length gmo - i
 
-cast-y : tie.Need-cast-y Inv-loop μ-loop
-cast-y c = search needs
-
-mul-y : tie.Need-mul-y Inv-loop μ-loop
-mul-y c = search needs
-
-element-copy-out-y : tie.Need-element-copy-out-y Inv-loop μ-loop
-element-copy-out-y c = search needs
-
 loop-holds : tie.Need-loop-holds Inv-loop μ-loop
 loop-holds c = (omega arith, refl)
 
-shared-slice-read-w : tie.Need-shared-slice-read-w Inv-loop μ-loop
-shared-slice-read-w c = search needs
-
 cast-if1 : tie.Need-cast-if1 Inv-loop μ-loop
 cast-if1 c = omega (arith, c .shared-slice-known2 .given (c .before .before .loop .i))
-
-add-i : tie.Need-add-i Inv-loop μ-loop
-add-i c = search needs
-
-loop-less : tie.Need-loop-less Inv-loop μ-loop
-loop-less c = search needs
 
 loop-again : tie.Need-loop-again Inv-loop μ-loop
 loop-again c =
@@ -48,24 +30,6 @@ loop-again c =
     let start = c .before .before .before .before .before .before .before in
     let slots : length (start .args .t1 .events) ≡ 32 = simp length-map at (start .good .0 .1 .1 .1 .1 .1 .1 .1 .1 .0 .1 .0 .1) in
     (omega arith, v .inv .1 ∙ last-skip _ (v .latest) _ (v .i) (omega arith) refl (past-slots _ _ _ _ (omega arith)))
-
-cast-visible : tie.Need-cast-visible Inv-loop μ-loop
-cast-visible c = search needs
-
-mul-visible : tie.Need-mul-visible Inv-loop μ-loop
-mul-visible c = search needs
-
-element-copy-out-visible : tie.Need-element-copy-out-visible Inv-loop μ-loop
-element-copy-out-visible c = search needs
-
-visible-requires : tie.Need-visible-requires Inv-loop μ-loop
-visible-requires c κs = search needs
-
-add-i-2 : tie.Need-add-i-2 Inv-loop μ-loop
-add-i-2 c = search needs
-
-loop-less-2 : tie.Need-loop-less-2 Inv-loop μ-loop
-loop-less-2 c = search needs
 
 loop-again-2 : tie.Need-loop-again-2 Inv-loop μ-loop
 unfolding visible writes kind sameLocation location po hart event
@@ -88,20 +52,20 @@ return-of-spec =
     (tie.spec
     Inv-loop
     μ-loop
-    cast-y
-    mul-y
-    element-copy-out-y
+    (λ c. search needs)
+    (λ c. search needs)
+    (λ c. search needs)
     loop-holds
-    shared-slice-read-w
+    (λ c. search needs)
     cast-if1
-    add-i
-    loop-less
+    (λ c. search needs)
+    (λ c. search needs)
     loop-again
-    cast-visible
-    mul-visible
-    element-copy-out-visible
-    visible-requires
-    add-i-2
-    loop-less-2
+    (λ c. search needs)
+    (λ c. search needs)
+    (λ c. search needs)
+    (λ c κs. search needs)
+    (λ c. search needs)
+    (λ c. search needs)
     loop-again-2
     returns)

@@ -5,18 +5,6 @@ use borrow.Author.Needs.{needs}
 use Rattle.returns.proofs.visible.Statement.{statement}
 use Rattle.returns.proofs.visible.Tie as tie
 
-writes-requires : tie.Need-writes-requires
-writes-requires c κs = search needs
-
-same-location-requires : tie.Need-same-location-requires
-same-location-requires c κs = search needs
-
-before-requires : tie.Need-before-requires
-before-requires c κs = search needs
-
-program-order-requires : tie.Need-program-order-requires
-program-order-requires c κs = search needs
-
 returns : tie.Need-returns
 returns c =
     let cl = c .before .before .before .before .before in
@@ -34,9 +22,9 @@ pub visible-spec : {M : Type 1} → statement M
 visible-spec =
     tie.close
     (tie.spec
-    writes-requires
-    same-location-requires
-    before-requires
-    program-order-requires
+    (λ c κs. search needs)
+    (λ c κs. search needs)
+    (λ c κs. search needs)
+    (λ c κs. search needs)
     returns
     returns-2)

@@ -4,15 +4,9 @@ use borrow.Author.Needs.{needs}
 use Rattle.returns.proofs.writes_to.Statement.{statement}
 use Rattle.returns.proofs.writes_to.Tie as tie
 
-event-of-requires : tie.Need-event-of-requires
-event-of-requires c κs = search needs
-
-writes-requires : tie.Need-writes-requires
-writes-requires c κs = search needs
-
 returns : tie.Need-returns
 unfolding writesTo writes kind location
 returns c = cc
 
 pub writes-to-spec : {M : Type 1} → statement M
-writes-to-spec = tie.close (tie.spec event-of-requires writes-requires returns)
+writes-to-spec = tie.close (tie.spec (λ c κs. search needs) (λ c κs. search needs) returns)

@@ -6,12 +6,6 @@ use borrow.Author.Needs.{needs}
 use Rattle.returns.proofs.written_value.Statement.{statement}
 use Rattle.returns.proofs.written_value.Tie as tie
 
-initial-value-requires : tie.Need-initial-value-requires
-initial-value-requires c κs = search needs
-
-event-of-requires : tie.Need-event-of-requires
-event-of-requires c κs = search needs
-
 returns : tie.Need-returns
 unfolding writtenValue
 returns c = rw (eq-eqb _ _ (c .before .if1 .taken)) (c .initial-value .ensures)
@@ -22,4 +16,4 @@ returns-2 c = rw (ne-eqb _ _ (c .before .if1 .left)) (ap (λ (e : Event). e .wri
 
 pub written-value-spec : {M : Type 1} → statement M
 written-value-spec =
-    tie.close (tie.spec initial-value-requires event-of-requires returns returns-2)
+    tie.close (tie.spec (λ c κs. search needs) (λ c κs. search needs) returns returns-2)

@@ -17,19 +17,10 @@ abbrev μ-loop : tie.MeasureT-loop
 loop-holds : tie.Need-loop-holds Inv-loop μ-loop
 loop-holds c = (omega arith, mask-none (c .args .t1) 13 (omega (arith, c .good .0 .1 .0 .1)))
 
-sub-k : tie.Need-sub-k Inv-loop μ-loop
-sub-k c = search needs
-
 mul-set : tie.Need-mul-set Inv-loop μ-loop
 mul-set c =
     let s = c .before .before in
     omega (arith, mask-fits 13 (s .args .t1) (c .before .loop .k) (omega (arith, s .good .0 .1 .0 .1)))
-
-array-read-set : tie.Need-array-read-set Inv-loop μ-loop
-array-read-set c = search needs
-
-cast-set : tie.Need-cast-set Inv-loop μ-loop
-cast-set c = search needs
 
 add-set : tie.Need-add-set Inv-loop μ-loop
 add-set c =
@@ -37,9 +28,6 @@ add-set c =
     let long : length held ≡ 13 = c .before .before .good .0 .1 .0 .1 in
     let v = c .before .loop in
     omega (arith, mask-fits 13 held (v .k - 1) (omega arith), mask-more held (v .k) _ (omega arith) (omega arith) (v .inv .1))
-
-loop-less : tie.Need-loop-less Inv-loop μ-loop
-loop-less c = search needs
 
 loop-again : tie.Need-loop-again Inv-loop μ-loop
 loop-again c =
@@ -60,11 +48,11 @@ set-mask-spec =
     Inv-loop
     μ-loop
     loop-holds
-    sub-k
+    (λ c. search needs)
     mul-set
-    array-read-set
-    cast-set
+    (λ c. search needs)
+    (λ c. search needs)
     add-set
-    loop-less
+    (λ c. search needs)
     loop-again
     returns)

@@ -6,30 +6,6 @@ use borrow.Author.Needs.{needs}
 use Rattle.rules.proofs.ppo.Statement.{statement}
 use Rattle.rules.proofs.ppo.Tie as tie
 
-cast-may-order : tie.Need-cast-may-order
-cast-may-order c = search needs
-
-mul-may-order : tie.Need-mul-may-order
-mul-may-order c = search needs
-
-element-copy-out-may-order : tie.Need-element-copy-out-may-order
-element-copy-out-may-order c = search needs
-
-cast-may-order-2 : tie.Need-cast-may-order-2
-cast-may-order-2 c = search needs
-
-mul-may-order-2 : tie.Need-mul-may-order-2
-mul-may-order-2 c = search needs
-
-element-copy-out-may-order-2 : tie.Need-element-copy-out-may-order-2
-element-copy-out-may-order-2 c = search needs
-
-may-order-requires : tie.Need-may-order-requires
-may-order-requires c κs = search needs
-
-rule-set-requires : tie.Need-rule-set-requires
-rule-set-requires c κs = search needs
-
 returns : tie.Need-returns
 unfolding mayOrder ofEvents
 returns c = ppo-taken _ _ _ _ _ (sym (c .before .before .may-order .ensures) ∙ c .before .if1 .taken) (c .rule-set .ensures)
@@ -42,13 +18,13 @@ pub ppo-spec : {M : Type 1} → statement M
 ppo-spec =
     tie.close
     (tie.spec
-    cast-may-order
-    mul-may-order
-    element-copy-out-may-order
-    cast-may-order-2
-    mul-may-order-2
-    element-copy-out-may-order-2
-    may-order-requires
-    rule-set-requires
+    (λ c. search needs)
+    (λ c. search needs)
+    (λ c. search needs)
+    (λ c. search needs)
+    (λ c. search needs)
+    (λ c. search needs)
+    (λ c κs. search needs)
+    (λ c κs. search needs)
     returns
     returns-2)

@@ -4,14 +4,8 @@ use Rattle.rule_sets.specs.RuleMask.{setMask}
 use Rattle.rules.proofs.rule_set.Statement.{statement}
 use Rattle.rules.proofs.rule_set.Tie as tie
 
-rules-requires : tie.Need-rules-requires
-rules-requires c κs = search needs
-
-set-mask-requires : tie.Need-set-mask-requires
-set-mask-requires c κs = search needs
-
 returns : tie.Need-returns
 returns c = c .set-mask .ensures ∙ ap setMask (c .before .rules .ensures)
 
 pub rule-set-spec : {M : Type 1} → statement M
-rule-set-spec = tie.close (tie.spec rules-requires set-mask-requires returns)
+rule-set-spec = tie.close (tie.spec (λ c κs. search needs) (λ c κs. search needs) returns)

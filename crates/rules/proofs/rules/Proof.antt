@@ -9,69 +9,6 @@ use borrow.Author.Needs.{needs}
 use Rattle.rules.proofs.rules.Statement.{statement}
 use Rattle.rules.proofs.rules.Tie as tie
 
-cast-x : tie.Need-cast-x
-cast-x c = search needs
-
-mul-x : tie.Need-mul-x
-mul-x c = search needs
-
-element-copy-out-x : tie.Need-element-copy-out-x
-element-copy-out-x c = search needs
-
-cast-y : tie.Need-cast-y
-cast-y c = search needs
-
-mul-y : tie.Need-mul-y
-mul-y c = search needs
-
-element-copy-out-y : tie.Need-element-copy-out-y
-element-copy-out-y c = search needs
-
-annotations-requires : tie.Need-annotations-requires
-annotations-requires c κs = search needs
-
-annotations-requires-2 : tie.Need-annotations-requires-2
-annotations-requires-2 c κs = search needs
-
-rule1-requires : tie.Need-rule1-requires
-rule1-requires c κs = search needs
-
-rule2-requires : tie.Need-rule2-requires
-rule2-requires c κs = search needs
-
-rule3-requires : tie.Need-rule3-requires
-rule3-requires c κs = search needs
-
-rule4-requires : tie.Need-rule4-requires
-rule4-requires c κs = search needs
-
-rule5-requires : tie.Need-rule5-requires
-rule5-requires c κs = search needs
-
-rule6-requires : tie.Need-rule6-requires
-rule6-requires c κs = search needs
-
-rule7-requires : tie.Need-rule7-requires
-rule7-requires c κs = search needs
-
-rule8-requires : tie.Need-rule8-requires
-rule8-requires c κs = search needs
-
-rule9-requires : tie.Need-rule9-requires
-rule9-requires c κs = search needs
-
-rule10-requires : tie.Need-rule10-requires
-rule10-requires c κs = search needs
-
-rule11-requires : tie.Need-rule11-requires
-rule11-requires c κs = search needs
-
-rule12-requires : tie.Need-rule12-requires
-rule12-requires c κs = search needs
-
-rule13-requires : tie.Need-rule13-requires
-rule13-requires c κs = search needs
-
 returns : tie.Need-returns
 unfolding rule1 rule3 rule5 rule6 rule7 rule9 rule10 rule11 ofEvents
 returns c =
@@ -99,25 +36,25 @@ pub rules-spec : {M : Type 1} → statement M
 rules-spec =
     tie.close
     (tie.spec
-    cast-x
-    mul-x
-    element-copy-out-x
-    cast-y
-    mul-y
-    element-copy-out-y
-    annotations-requires
-    annotations-requires-2
-    rule2-requires
-    rule3-requires
-    rule12-requires
-    rule1-requires
-    rule4-requires
-    rule5-requires
-    rule6-requires
-    rule7-requires
-    rule8-requires
-    rule9-requires
-    rule10-requires
-    rule11-requires
-    rule13-requires
+    (λ c. search needs)
+    (λ c. search needs)
+    (λ c. search needs)
+    (λ c. search needs)
+    (λ c. search needs)
+    (λ c. search needs)
+    (λ c κs. search needs)
+    (λ c κs. search needs)
+    (λ c κs. search needs)
+    (λ c κs. search needs)
+    (λ c κs. search needs)
+    (λ c κs. search needs)
+    (λ c κs. search needs)
+    (λ c κs. search needs)
+    (λ c κs. search needs)
+    (λ c κs. search needs)
+    (λ c κs. search needs)
+    (λ c κs. search needs)
+    (λ c κs. search needs)
+    (λ c κs. search needs)
+    (λ c κs. search needs)
     returns)

@@ -14,27 +14,12 @@ began : (c : tie.After-loaded) → let a = c .before .before .before .before .be
     Began (a .pred .now) (a .mem) (a .start .now) (c .before .before .load .last .1 .1 .1 .1 .0) (g .0) (g .1 .0) (g .1 .1 .0)
 began c = subst (LoadedAs _ _ _ _) (c .loaded .given .1) (c .before .before .load .ensures)
 
-load-requires : tie.Need-load-requires
-load-requires c κs = search needs
-
-enum-told : tie.Need-enum-told
-enum-told c = search needs
-
-enum-known-loaded : tie.Need-enum-known-loaded
-enum-known-loaded c = search needs
-
 follow-requires : tie.Need-follow-requires
 follow-requires c κs =
     let d = c .before .before .before in
     let a = d .before .before .before .before .before in
     let h = holds-fitting (a .pre .0) (began d .holds) in
     (h .0, h .1, a .pre .2)
-
-enum-told-2 : tie.Need-enum-told-2
-enum-told-2 c = search needs
-
-enum-known-followed : tie.Need-enum-known-followed
-enum-known-followed c = search needs
 
 returns : tie.Need-returns
 returns c =
@@ -58,12 +43,12 @@ pub begin-spec : {M : Type 1} → statement M
 begin-spec =
     tie.close
     (tie.spec
-    load-requires
-    enum-told
-    enum-known-loaded
+    (λ c κs. search needs)
+    (λ c. search needs)
+    (λ c. search needs)
     follow-requires
-    enum-told-2
-    enum-known-followed
+    (λ c. search needs)
+    (λ c. search needs)
     returns
     returns-2
     returns-3)

@@ -9,29 +9,17 @@ use borrow.Author.Needs.{needs}
 use Rattle.search.proofs.deliver.Statement.{statement}
 use Rattle.search.proofs.deliver.Tie as tie
 
-enum-known-ending : tie.Need-enum-known-ending
-enum-known-ending c = search needs
-
 copy-requires : tie.Need-copy-requires
 copy-requires c κs =
     let p = c .before .before .before .before .before .pre in
     let q = c .before .before .ending .given .1 in
     (p .0, subst (AtMost slots) q (p .1), subst (AtMost (length (c .before .before .before .before .before .args .out .now))) q (p .2))
 
-enum-known-ending-2 : tie.Need-enum-known-ending-2
-enum-known-ending-2 c = search needs
-
-enum-known-ending-3 : tie.Need-enum-known-ending-3
-enum-known-ending-3 c = search needs
-
 copy-requires-2 : tie.Need-copy-requires-2
 copy-requires-2 c κs =
     let p = c .before .before .before .before .before .pre in
     let q = c .before .before .ending3 .given .1 in
     (p .0, subst (AtMost slots) q (p .1), subst (AtMost (length (c .before .before .before .before .before .args .out .now))) q (p .2))
-
-same-length : tie.Need-same-length
-same-length c = search needs
 
 returns : tie.Need-returns
 returns c =
@@ -42,9 +30,6 @@ returns c =
 
 returns-2 : tie.Need-returns-2
 returns-2 c = (search (none-said, needs), (search (none-written, needs), search (none-counted, needs)))
-
-same-length-2 : tie.Need-same-length-2
-same-length-2 c = search needs
 
 returns-3 : tie.Need-returns-3
 returns-3 c =
@@ -57,13 +42,13 @@ pub deliver-spec : {M : Type 1} → statement M
 deliver-spec =
     tie.close
     (tie.spec
-    enum-known-ending
+    (λ c. search needs)
     copy-requires
-    enum-known-ending-2
-    enum-known-ending-3
+    (λ c. search needs)
+    (λ c. search needs)
     copy-requires-2
-    same-length
+    (λ c. search needs)
     returns
     returns-2
-    same-length-2
+    (λ c. search needs)
     returns-3)

@@ -40,23 +40,8 @@ module _ (d : tie.After-begun) where
       Beginning (given .args .facts .now) masks memory (given .args .watched) (given .args .start .now) (l .0) (l .1 .0) (d .begun .given .0 .0)
   beginning = subst (BeginsAs _ _ _ _ _ _ _) (d .begun .given .1) (d .before .before .begin .ensures)
 
-predecessors-requires : tie.Need-predecessors-requires
-predecessors-requires c κs = search needs
-
-memory-mask-requires : tie.Need-memory-mask-requires
-memory-mask-requires c κs = search needs
-
 successors-requires : tie.Need-successors-requires
 successors-requires c κs = mask-small _ (c .before .memory-mask .ensures) (c .before .before .before .before .before .before .pre .0)
-
-begin-requires : tie.Need-begin-requires
-begin-requires c κs = search needs
-
-enum-told : tie.Need-enum-told
-enum-told c = search needs
-
-enum-known-begun : tie.Need-enum-known-begun
-enum-known-begun c = search needs
 
 cast-if1 : tie.Need-cast-if1
 cast-if1 c = omega (arith, ones-le 32 (memory (c .before)) (omega (arith, memory-small (c .before))))
@@ -91,9 +76,6 @@ returns-3 c =
     unlisted-replied (c .before .before .before .before .before .before .before .before .before .before .before .before .before .before .pre .2) (c .before .before .before .before .before .before .before .before .before .before .predecessors .ensures) (c .before .before .before .before .before .before .before .before .before .memory-mask .ensures) _ _ _ [] []
     (subst (BeginsAs _ _ _ _ _ _ _) (c .enum-told .given .1) (c .before .before .begin .ensures))
 
-same-length : tie.Need-same-length
-same-length c = search needs
-
 returns-4 : tie.Need-returns-4
 returns-4 c =
     let d = c .before .before .before .before .before .before .before .before .before .before .before .before .before in
@@ -104,17 +86,17 @@ pub search-by-spec : {M : Type 1} → statement M
 search-by-spec =
     tie.close
     (tie.spec
-    predecessors-requires
-    memory-mask-requires
+    (λ c κs. search needs)
+    (λ c κs. search needs)
     successors-requires
-    begin-requires
-    enum-told
-    enum-known-begun
+    (λ c κs. search needs)
+    (λ c. search needs)
+    (λ c. search needs)
     cast-if1
     returns
     returns-2
     walk-requires
     deliver-requires
     returns-3
-    same-length
+    (λ c. search needs)
     returns-4)

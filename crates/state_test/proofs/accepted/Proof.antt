@@ -17,20 +17,8 @@ abbrev μ-loop : tie.MeasureT-loop
 lowest : (c : tie.After-lowest-set Inv-loop μ-loop) → c .lowest-set .result < capacity
 lowest c = rest-lowest _ _ _ _ (c .before .before .loop .inv .0) (omega arith) (c .lowest-set .ensures) .0
 
-index-1-less : tie.Need-index-1-less Inv-loop μ-loop
-index-1-less c = search needs
-
-index-2-less : tie.Need-index-2-less Inv-loop μ-loop
-index-2-less c = search needs
-
-less-requires : tie.Need-less-requires Inv-loop μ-loop
-less-requires c κs = search needs
-
 loop-holds : tie.Need-loop-holds Inv-loop μ-loop
 loop-holds c = test-start _ _ (c .before .before .args .s) _ (c .less .ok)
-
-lowest-set-requires : tie.Need-lowest-set-requires Inv-loop μ-loop
-lowest-set-requires c κs = search needs
 
 one-requires : tie.Need-one-requires Inv-loop μ-loop
 one-requires c κs = lowest c
@@ -40,9 +28,6 @@ cast-may-follow c = omega (arith, lowest (c .before))
 
 may-follow-requires : tie.Need-may-follow-requires Inv-loop μ-loop
 may-follow-requires c κs = lowest (c .before)
-
-mask-if-requires : tie.Need-mask-if-requires Inv-loop μ-loop
-mask-if-requires c κs = search needs
 
 loop-less : tie.Need-loop-less Inv-loop μ-loop
 loop-less c =
@@ -67,15 +52,15 @@ accepted-spec =
     (tie.spec
     Inv-loop
     μ-loop
-    index-1-less
-    index-2-less
-    less-requires
+    (λ c. search needs)
+    (λ c. search needs)
+    (λ c κs. search needs)
     loop-holds
-    lowest-set-requires
+    (λ c κs. search needs)
     one-requires
     cast-may-follow
     may-follow-requires
-    mask-if-requires
+    (λ c κs. search needs)
     loop-less
     loop-again
     returns)

@@ -3,12 +3,6 @@ use borrow.Author.Needs.{needs}
 use Rattle.state_test.proofs.is_lost.Statement.{statement}
 use Rattle.state_test.proofs.is_lost.Tie as tie
 
-lost-final-requires : tie.Need-lost-final-requires
-lost-final-requires c κs = search needs
-
-lost-read-requires : tie.Need-lost-read-requires
-lost-read-requires c κs = search needs
-
 returns : tie.Need-returns
 returns c = lost-final _ _ (c .before .before .args .s) _ (c .before .lost-final .ensures) (c .if1 .taken)
 
@@ -18,4 +12,4 @@ returns-2 c =
     lost-read _ _ (k .before .args .s) _ (k .lost-final .ensures) (c .before .if1 .left) _ (c .lost-read .ensures)
 
 pub is-lost-spec : {M : Type 1} → statement M
-is-lost-spec = tie.close (tie.spec lost-final-requires lost-read-requires returns returns-2)
+is-lost-spec = tie.close (tie.spec (λ c κs. search needs) (λ c κs. search needs) returns returns-2)

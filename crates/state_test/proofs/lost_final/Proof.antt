@@ -29,38 +29,11 @@ told c =
     spoiled-by (start .args .facts .now) (start .args .placed) (k .lowest-set .result) _ _ (c .before .less2 .ensures)
     (c .within .ensures)
 
-index-1-wrong : tie.Need-index-1-wrong Inv-loop μ-loop
-index-1-wrong c = search needs
-
-index-2-wrong : tie.Need-index-2-wrong Inv-loop μ-loop
-index-2-wrong c = search needs
-
-less-requires : tie.Need-less-requires Inv-loop μ-loop
-less-requires c κs = search needs
-
 loop-holds : tie.Need-loop-holds Inv-loop μ-loop
 loop-holds c = (c .less .ok, refl)
 
-lowest-set-requires : tie.Need-lowest-set-requires Inv-loop μ-loop
-lowest-set-requires c κs = search needs
-
-cast-less : tie.Need-cast-less Inv-loop μ-loop
-cast-less c = search needs
-
-mul-less : tie.Need-mul-less Inv-loop μ-loop
-mul-less c = search needs
-
-index-1-less : tie.Need-index-1-less Inv-loop μ-loop
-index-1-less c = search needs
-
 index-2-less : tie.Need-index-2-less Inv-loop μ-loop
 index-2-less c = lowest c
-
-less-requires-2 : tie.Need-less-requires-2 Inv-loop μ-loop
-less-requires-2 c κs = search needs
-
-within-requires : tie.Need-within-requires Inv-loop μ-loop
-within-requires c κs = search needs
 
 returns : tie.Need-returns Inv-loop μ-loop
 returns c =
@@ -94,17 +67,17 @@ lost-final-spec =
     (tie.spec
     Inv-loop
     μ-loop
-    index-1-wrong
-    index-2-wrong
-    less-requires
+    (λ c. search needs)
+    (λ c. search needs)
+    (λ c κs. search needs)
     loop-holds
-    lowest-set-requires
-    cast-less
-    mul-less
-    index-1-less
+    (λ c κs. search needs)
+    (λ c. search needs)
+    (λ c. search needs)
+    (λ c. search needs)
     index-2-less
-    less-requires-2
-    within-requires
+    (λ c κs. search needs)
+    (λ c κs. search needs)
     returns
     one-requires
     loop-less

@@ -18,35 +18,8 @@ abbrev μ-loop : tie.MeasureT-loop
 lowest : (c : tie.After-lowest-set Inv-loop μ-loop) → c .lowest-set .result < capacity
 lowest c = rest-lowest _ _ _ _ (c .before .before .loop .inv .0) (omega arith) (c .lowest-set .ensures) .0
 
-index-1-less : tie.Need-index-1-less Inv-loop μ-loop
-index-1-less c = search needs
-
-index-2-less : tie.Need-index-2-less Inv-loop μ-loop
-index-2-less c = search needs
-
-less-requires : tie.Need-less-requires Inv-loop μ-loop
-less-requires c κs = search needs
-
-union-requires : tie.Need-union-requires Inv-loop μ-loop
-union-requires c κs = search needs
-
-index-1-less-2 : tie.Need-index-1-less-2 Inv-loop μ-loop
-index-1-less-2 c = search needs
-
-index-2-less-2 : tie.Need-index-2-less-2 Inv-loop μ-loop
-index-2-less-2 c = search needs
-
-less-requires-2 : tie.Need-less-requires-2 Inv-loop μ-loop
-less-requires-2 c κs = search needs
-
-less-requires-3 : tie.Need-less-requires-3 Inv-loop μ-loop
-less-requires-3 c κs = search needs
-
 loop-holds : tie.Need-loop-holds Inv-loop μ-loop
 loop-holds c = sound-start _ _ (c .before .before .before .before .before .before .args .s) _ (c .less3 .ok)
-
-lowest-set-requires : tie.Need-lowest-set-requires Inv-loop μ-loop
-lowest-set-requires c κs = search needs
 
 cast-reads-stated : tie.Need-cast-reads-stated Inv-loop μ-loop
 cast-reads-stated c = omega (arith, lowest c)
@@ -96,16 +69,16 @@ lost-read-spec =
     (tie.spec
     Inv-loop
     μ-loop
-    index-1-less
-    index-2-less
-    less-requires
-    union-requires
-    index-1-less-2
-    index-2-less-2
-    less-requires-2
-    less-requires-3
+    (λ c. search needs)
+    (λ c. search needs)
+    (λ c κs. search needs)
+    (λ c κs. search needs)
+    (λ c. search needs)
+    (λ c. search needs)
+    (λ c κs. search needs)
+    (λ c κs. search needs)
     loop-holds
-    lowest-set-requires
+    (λ c κs. search needs)
     cast-reads-stated
     reads-stated-requires
     returns

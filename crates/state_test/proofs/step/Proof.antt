@@ -3,18 +3,9 @@ use borrow.Author.Needs.{needs}
 use Rattle.state_test.proofs.step.Statement.{statement}
 use Rattle.state_test.proofs.step.Tie as tie
 
-one-requires : tie.Need-one-requires
-one-requires c κs = search needs
-
-good-after-requires : tie.Need-good-after-requires
-good-after-requires c κs = search needs
-
-less-requires : tie.Need-less-requires
-less-requires c κs = search needs
-
 returns : tie.Need-returns
 returns c =
     steps _ _ _ _ _ (c .before .before .before .one .ensures) (c .before .good-after .ensures) _ (c .less .ensures)
 
 pub step-spec : {M : Type 1} → statement M
-step-spec = tie.close (tie.spec one-requires good-after-requires less-requires returns)
+step-spec = tie.close (tie.spec (λ c κs. search needs) (λ c κs. search needs) (λ c κs. search needs) returns)

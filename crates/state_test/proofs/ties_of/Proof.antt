@@ -20,20 +20,8 @@ abbrev μ-loop : tie.MeasureT-loop
 located : (c : tie.In-loop Inv-loop μ-loop) → location (c .before .before .before .args .t1) (c .before .loop .e) < maxLocations
 located c = c .before .before .before .pre .0 .small .each-location (c .before .loop .e) (c .loop-test .taken)
 
-memory-mask-requires : tie.Need-memory-mask-requires Inv-loop μ-loop
-memory-mask-requires c κs = search needs
-
 loop-holds : tie.Need-loop-holds Inv-loop μ-loop
 loop-holds c = pad-start _ _ _
-
-cast-x : tie.Need-cast-x Inv-loop μ-loop
-cast-x c = search needs
-
-mul-x : tie.Need-mul-x Inv-loop μ-loop
-mul-x c = search needs
-
-element-copy-out-x : tie.Need-element-copy-out-x Inv-loop μ-loop
-element-copy-out-x c = search needs
 
 cast-place : tie.Need-cast-place Inv-loop μ-loop
 unfolding location event
@@ -47,21 +35,6 @@ element-copy-out-place : tie.Need-element-copy-out-place Inv-loop μ-loop
 unfolding location event
 element-copy-out-place c = located c
 
-cast-place-2 : tie.Need-cast-place-2 Inv-loop μ-loop
-cast-place-2 c = search needs
-
-mul-place-2 : tie.Need-mul-place-2 Inv-loop μ-loop
-mul-place-2 c = search needs
-
-array-write-place : tie.Need-array-write-place Inv-loop μ-loop
-array-write-place c = search needs
-
-add-e : tie.Need-add-e Inv-loop μ-loop
-add-e c = search needs
-
-loop-less : tie.Need-loop-less Inv-loop μ-loop
-loop-less c = search needs
-
 loop-again : tie.Need-loop-again Inv-loop μ-loop
 unfolding location event
 loop-again c =
@@ -72,12 +45,6 @@ loop-again c =
     let pre = start .before .pre in
     pad-more _ _ _ _ _ _ (omega (arith, pre .0 .small .events)) (d .before .loop .inv) (d .loop-test .taken)
     (around-is t s (pre .1) (pre .0 .small) _ (d .loop-test .taken) _ (start .memory-mask .ensures))
-
-predecessors-requires : tie.Need-predecessors-requires Inv-loop μ-loop
-predecessors-requires c κs = search needs
-
-words-requires : tie.Need-words-requires Inv-loop μ-loop
-words-requires c κs = search needs
 
 returns : tie.Need-returns Inv-loop μ-loop
 returns c facts f =
@@ -102,20 +69,20 @@ ties-of-spec =
     (tie.spec
     Inv-loop
     μ-loop
-    memory-mask-requires
+    (λ c κs. search needs)
     loop-holds
-    cast-x
-    mul-x
-    element-copy-out-x
+    (λ c. search needs)
+    (λ c. search needs)
+    (λ c. search needs)
     cast-place
     mul-place
     element-copy-out-place
-    cast-place-2
-    mul-place-2
-    array-write-place
-    add-e
-    loop-less
+    (λ c. search needs)
+    (λ c. search needs)
+    (λ c. search needs)
+    (λ c. search needs)
+    (λ c. search needs)
     loop-again
-    predecessors-requires
-    words-requires
+    (λ c κs. search needs)
+    (λ c κs. search needs)
     returns)

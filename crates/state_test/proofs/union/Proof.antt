@@ -21,21 +21,6 @@ lowest c = unite-lowest _ _ _ _ _ _ (c .before .before .loop .inv) (omega arith)
 loop-holds : tie.Need-loop-holds Inv-loop μ-loop
 loop-holds c = unite-start _ _ _ (c .fits .of .fits)
 
-lowest-set-requires : tie.Need-lowest-set-requires Inv-loop μ-loop
-lowest-set-requires c κs = search needs
-
-cast-all : tie.Need-cast-all Inv-loop μ-loop
-cast-all c = search needs
-
-mul-all : tie.Need-mul-all Inv-loop μ-loop
-mul-all c = search needs
-
-mul-all-2 : tie.Need-mul-all-2 Inv-loop μ-loop
-mul-all-2 c = search needs
-
-index-1-all : tie.Need-index-1-all Inv-loop μ-loop
-index-1-all c = search needs
-
 index-2-all : tie.Need-index-2-all Inv-loop μ-loop
 index-2-all c = lowest c
 
@@ -62,11 +47,11 @@ union-spec =
     Inv-loop
     μ-loop
     loop-holds
-    lowest-set-requires
-    cast-all
-    mul-all
-    mul-all-2
-    index-1-all
+    (λ c κs. search needs)
+    (λ c. search needs)
+    (λ c. search needs)
+    (λ c. search needs)
+    (λ c. search needs)
     index-2-all
     one-requires
     loop-less

@@ -5,24 +5,6 @@ use borrow.Author.Needs.{needs}
 use Rattle.stated_values.proofs.breaks_load_value.Statement.{statement}
 use Rattle.stated_values.proofs.breaks_load_value.Tie as tie
 
-cast-reads : tie.Need-cast-reads
-cast-reads c = search needs
-
-mul-reads : tie.Need-mul-reads
-mul-reads c = search needs
-
-element-copy-out-reads : tie.Need-element-copy-out-reads
-element-copy-out-reads c = search needs
-
-reads-requires : tie.Need-reads-requires
-reads-requires c κs = search needs
-
-returned-from-requires : tie.Need-returned-from-requires
-returned-from-requires c κs = search needs
-
-return-of-requires : tie.Need-return-of-requires
-return-of-requires c κs = search needs
-
 returns : tie.Need-returns
 unfolding breaksLoadValue ofEvents
 returns c =
@@ -37,11 +19,11 @@ pub breaks-load-value-spec : {M : Type 1} → statement M
 breaks-load-value-spec =
     tie.close
     (tie.spec
-    cast-reads
-    mul-reads
-    element-copy-out-reads
-    reads-requires
-    returned-from-requires
-    return-of-requires
+    (λ c. search needs)
+    (λ c. search needs)
+    (λ c. search needs)
+    (λ c κs. search needs)
+    (λ c κs. search needs)
+    (λ c κs. search needs)
     returns
     returns-2)

@@ -5,24 +5,6 @@ use borrow.Author.Needs.{needs}
 use Rattle.stated_values.proofs.breaks_value_read.Statement.{statement}
 use Rattle.stated_values.proofs.breaks_value_read.Tie as tie
 
-cast-e : tie.Need-cast-e
-cast-e c = search needs
-
-mul-e : tie.Need-mul-e
-mul-e c = search needs
-
-element-copy-out-e : tie.Need-element-copy-out-e
-element-copy-out-e c = search needs
-
-reads-requires : tie.Need-reads-requires
-reads-requires c κs = search needs
-
-returned-from-requires : tie.Need-returned-from-requires
-returned-from-requires c κs = search needs
-
-written-value-requires : tie.Need-written-value-requires
-written-value-requires c κs = search needs
-
 returns : tie.Need-returns
 unfolding breaksValueRead ofEvents
 returns c =
@@ -37,11 +19,11 @@ pub breaks-value-read-spec : {M : Type 1} → statement M
 breaks-value-read-spec =
     tie.close
     (tie.spec
-    cast-e
-    mul-e
-    element-copy-out-e
-    reads-requires
-    returned-from-requires
-    written-value-requires
+    (λ c. search needs)
+    (λ c. search needs)
+    (λ c. search needs)
+    (λ c κs. search needs)
+    (λ c κs. search needs)
+    (λ c κs. search needs)
     returns
     returns-2)

@@ -16,19 +16,10 @@ abbrev μ-loop : tie.MeasureT-loop
 loop-holds : tie.Need-loop-holds Inv-loop μ-loop
 loop-holds c = scan-start _ _
 
-breaks-load-value-requires : tie.Need-breaks-load-value-requires Inv-loop μ-loop
-breaks-load-value-requires c κs = search needs
-
 returns : tie.Need-returns Inv-loop μ-loop
 returns c =
     let v = c .before .before .before .before .loop in
     sym (scan-hit _ _ _ (v .inv) (omega arith) (rw (c .before .breaks-load-value .ensures) at (c .if2 .taken)))
-
-add-r : tie.Need-add-r Inv-loop μ-loop
-add-r c = search needs
-
-loop-less : tie.Need-loop-less Inv-loop μ-loop
-loop-less c = search needs
 
 loop-again : tie.Need-loop-again Inv-loop μ-loop
 loop-again c =
@@ -45,9 +36,9 @@ lowest-load-value-spec =
     Inv-loop
     μ-loop
     loop-holds
-    breaks-load-value-requires
+    (λ c κs. search needs)
     returns
-    add-r
-    loop-less
+    (λ c. search needs)
+    (λ c. search needs)
     loop-again
     returns-2)

@@ -17,19 +17,10 @@ abbrev μ-loop : tie.MeasureT-loop
 loop-holds : tie.Need-loop-holds Inv-loop μ-loop
 loop-holds c = scan-start _ _
 
-breaks-pair-requires : tie.Need-breaks-pair-requires Inv-loop μ-loop
-breaks-pair-requires c κs = search needs
-
 returns : tie.Need-returns Inv-loop μ-loop
 returns c =
     let v = c .before .before .before .before .loop in
     sym (ap not (some-hit _ _ _ (v .inv) (omega arith) (sym (c .before .breaks-pair .ensures) ∙ c .if2 .taken)))
-
-add-l : tie.Need-add-l Inv-loop μ-loop
-add-l c = search needs
-
-loop-less : tie.Need-loop-less Inv-loop μ-loop
-loop-less c = search needs
 
 loop-again : tie.Need-loop-again Inv-loop μ-loop
 loop-again c =
@@ -46,9 +37,9 @@ atomic-spec =
     Inv-loop
     μ-loop
     loop-holds
-    breaks-pair-requires
+    (λ c κs. search needs)
     returns
-    add-l
-    loop-less
+    (λ c. search needs)
+    (λ c. search needs)
     loop-again
     returns-2)

@@ -8,33 +8,6 @@ use borrow.Author.Needs.{needs}
 use Rattle.steps.proofs.issue.Statement.{statement}
 use Rattle.steps.proofs.issue.Tie as tie
 
-cast-y : tie.Need-cast-y
-cast-y c = search needs
-
-mul-y : tie.Need-mul-y
-mul-y c = search needs
-
-element-copy-out-y : tie.Need-element-copy-out-y
-element-copy-out-y c = search needs
-
-cast-one : tie.Need-cast-one
-cast-one c = search needs
-
-one-requires : tie.Need-one-requires
-one-requires c κs = search needs
-
-less-requires : tie.Need-less-requires
-less-requires c κs = search needs
-
-reads-requires : tie.Need-reads-requires
-reads-requires c κs = search needs
-
-writes-requires : tie.Need-writes-requires
-writes-requires c κs = search needs
-
-mask-if-requires : tie.Need-mask-if-requires
-mask-if-requires c κs = search needs
-
 returns : tie.Need-returns
 unfolding ofEvents
 returns c s r n h =
@@ -43,12 +16,6 @@ returns c s r n h =
     (sym (c .before .before .before .before .reads .ensures) ∙ not-true _ (c .before .before .before .if1 .taken)) (c .before .before .before .before .before .before .one .ensures) (c .before .before .before .before .before .less .ensures)
     (rw (c .before .before .writes .ensures) at (c .before .mask-if .ensures))
 
-newest-requires : tie.Need-newest-requires
-newest-requires c κs = search needs
-
-may-read-requires : tie.Need-may-read-requires
-may-read-requires c κs = search needs
-
 returns-2 : tie.Need-returns-2
 unfolding ofEvents
 returns-2 c s r n h =
@@ -56,34 +23,10 @@ returns-2 c s r n h =
     issue-refused _ _ _ _ s h (d .pre .2) (d .args .e .0) (d .pre .1) _ (sym (c .before .before .before .before .reads .ensures) ∙ not-false _ (c .before .before .before .if1 .left))
     (sym (c .before .may-read .ensures s (h .held)) ∙ not-true _ (c .if2 .taken)) (c .before .before .newest .ensures s (h .held))
 
-slice-reshare-prefix-returned : tie.Need-slice-reshare-prefix-returned
-slice-reshare-prefix-returned c = search needs
-
 slice-aggregate-returned : tie.Need-slice-aggregate-returned
 slice-aggregate-returned c =
     let d = c .before .before .before .before .before .before .before .before .before .before .before .before .before .before in
     sym (length-take-le (d .args .done .len) (d .args .order .now) (omega (arith, d .pre .2 .more, d .pre .2 .long)))
-
-returned-requires : tie.Need-returned-requires
-returned-requires c κs = search needs
-
-cast-rf : tie.Need-cast-rf
-cast-rf c = search needs
-
-slice-write-rf : tie.Need-slice-write-rf
-slice-write-rf c = search needs
-
-slice-write-order : tie.Need-slice-write-order
-slice-write-order c = search needs
-
-add-t15 : tie.Need-add-t15
-add-t15 c = search needs
-
-same-length : tie.Need-same-length
-same-length c = search needs
-
-same-length-2 : tie.Need-same-length-2
-same-length-2 c = search needs
 
 returns-3 : tie.Need-returns-3
 unfolding ofEvents
@@ -100,26 +43,26 @@ pub issue-spec : {M : Type 1} → statement M
 issue-spec =
     tie.close
     (tie.spec
-    cast-y
-    mul-y
-    element-copy-out-y
-    cast-one
-    one-requires
-    less-requires
-    reads-requires
-    writes-requires
-    mask-if-requires
+    (λ c. search needs)
+    (λ c. search needs)
+    (λ c. search needs)
+    (λ c. search needs)
+    (λ c κs. search needs)
+    (λ c κs. search needs)
+    (λ c κs. search needs)
+    (λ c κs. search needs)
+    (λ c κs. search needs)
     returns
-    newest-requires
-    may-read-requires
+    (λ c κs. search needs)
+    (λ c κs. search needs)
     returns-2
-    slice-reshare-prefix-returned
+    (λ c. search needs)
     slice-aggregate-returned
-    returned-requires
-    cast-rf
-    slice-write-rf
-    slice-write-order
-    add-t15
-    same-length
-    same-length-2
+    (λ c κs. search needs)
+    (λ c. search needs)
+    (λ c. search needs)
+    (λ c. search needs)
+    (λ c. search needs)
+    (λ c. search needs)
+    (λ c. search needs)
     returns-3)

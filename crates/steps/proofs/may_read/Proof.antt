@@ -6,22 +6,10 @@ use borrow.Author.Needs.{needs}
 use Rattle.steps.proofs.may_read.Statement.{statement}
 use Rattle.steps.proofs.may_read.Tie as tie
 
-cast-if1 : tie.Need-cast-if1
-cast-if1 c = search needs
-
-mul-if1 : tie.Need-mul-if1
-mul-if1 c = search needs
-
-element-copy-out-if1 : tie.Need-element-copy-out-if1
-element-copy-out-if1 c = search needs
-
 returns : tie.Need-returns
 returns c s q =
     let d = c .before .before .before in
     rw (waits-is _ s _ q (d .args .r .0) _ (pred-at _ _ _ (d .pre .0 .pred) (d .pre .0 .tso .good .small .events) (d .pre .1)), ne-eqb _ _ (c .if1 .taken))
-
-unsure-requires : tie.Need-unsure-requires
-unsure-requires c κs = search needs
 
 returns-2 : tie.Need-returns-2
 returns-2 c s q =
@@ -36,4 +24,11 @@ returns-3 c s q =
 pub may-read-spec : {M : Type 1} → statement M
 may-read-spec =
     tie.close
-    (tie.spec cast-if1 mul-if1 element-copy-out-if1 returns unsure-requires returns-2 returns-3)
+    (tie.spec
+    (λ c. search needs)
+    (λ c. search needs)
+    (λ c. search needs)
+    returns
+    (λ c κs. search needs)
+    returns-2
+    returns-3)

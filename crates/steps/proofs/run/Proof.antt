@@ -17,23 +17,11 @@ abbrev μ-loop : tie.MeasureT-loop
 loop-holds : tie.Need-loop-holds Inv-loop μ-loop
 loop-holds c = let d = c .before .before .before in run-start (d .pre .0 .tso .good .small .events) (d .pre .1)
 
-shared-slice-read-b : tie.Need-shared-slice-read-b Inv-loop μ-loop
-shared-slice-read-b c = search needs
-
 cast-take : tie.Need-cast-take Inv-loop μ-loop
 cast-take c = omega (arith, c .before .before .shared-slice-known2 .given (c .before .before .before .before .loop .i))
 
 take-requires : tie.Need-take-requires Inv-loop μ-loop
 take-requires c κs = let k = c .before .before .before .before .before .before .before .before .pre .0 in (k, run-room (k .tso) (c .before .before .before .before .loop .inv))
-
-enum-told : tie.Need-enum-told Inv-loop μ-loop
-enum-told c = search needs
-
-same-length : tie.Need-same-length Inv-loop μ-loop
-same-length c = search needs
-
-same-length-2 : tie.Need-same-length-2 Inv-loop μ-loop
-same-length-2 c = search needs
 
 returns : tie.Need-returns Inv-loop μ-loop
 returns c =
@@ -41,27 +29,12 @@ returns c =
     run-breaks v (c .before .before .before .before .before .before .before .before .before .before .loop-test .taken)
     (subst (Outcome _ _ _ _ _ _) (c .enum-told .given .1) (c .before .before .before .before .before .before .take .ensures (v .at) (v .reached) (v .holds)))
 
-enum-known-step : tie.Need-enum-known-step Inv-loop μ-loop
-enum-known-step c = search needs
-
-add-i : tie.Need-add-i Inv-loop μ-loop
-add-i c = search needs
-
-loop-less : tie.Need-loop-less Inv-loop μ-loop
-loop-less c = search needs
-
 loop-again : tie.Need-loop-again Inv-loop μ-loop
 loop-again c =
     let v = c .before .before .before .before .before .before .before .before .before .before .before .before .loop .inv in
     run-more v (c .before .before .before .before .before .before .before .before .before .before .before .loop-test .taken) (c .before .before .before .before .before .before .before .before .before .before .before .before .before .before .before .before .pre .0 .tso)
     (subst (Outcome _ _ _ _ _ _) (c .before .step .given .1) (c .before .before .before .before .before .before .before .take .ensures (v .at) (v .reached) (v .holds)))
     (c .before .before .before .before .before .before .before .take .kept .1 .1 .0 ∙ v .long) (c .before .before .before .before .before .before .before .take .kept .1 .1 .1 .0 ∙ v .each)
-
-same-length-3 : tie.Need-same-length-3 Inv-loop μ-loop
-same-length-3 c = search needs
-
-same-length-4 : tie.Need-same-length-4 Inv-loop μ-loop
-same-length-4 c = search needs
 
 returns-2 : tie.Need-returns-2 Inv-loop μ-loop
 returns-2 c = run-end (c .before .loop .inv) (c .loop-test .left)
@@ -73,17 +46,17 @@ run-spec =
     Inv-loop
     μ-loop
     loop-holds
-    shared-slice-read-b
+    (λ c. search needs)
     cast-take
     take-requires
-    enum-told
-    same-length
-    same-length-2
+    (λ c. search needs)
+    (λ c. search needs)
+    (λ c. search needs)
     returns
-    enum-known-step
-    add-i
-    loop-less
+    (λ c. search needs)
+    (λ c. search needs)
+    (λ c. search needs)
     loop-again
-    same-length-3
-    same-length-4
+    (λ c. search needs)
+    (λ c. search needs)
     returns-2)

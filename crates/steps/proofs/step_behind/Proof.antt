@@ -32,41 +32,14 @@ outcome c =
     let d = c .before .before .before .before .before .before .before .before in
     subst (Outcome _ _ _ _ _ _) (c .last .given .1) (c .before .before .before .before .take .ensures _ (reached-there d) (reaches d .1))
 
-slice-aggregate-run : tie.Need-slice-aggregate-run
-slice-aggregate-run c = search needs
-
-slice-aggregate-run-2 : tie.Need-slice-aggregate-run-2
-slice-aggregate-run-2 c = search needs
-
 run-requires : tie.Need-run-requires
 run-requires c κs = let k = c .before .before .before .pre in (k, begun _ _ (k .tso .good .small .events) refl)
-
-enum-told : tie.Need-enum-told
-enum-told c = search needs
-
-enum-known-ran : tie.Need-enum-known-ran
-enum-known-ran c = search needs
-
-slice-aggregate-take : tie.Need-slice-aggregate-take
-slice-aggregate-take c = search needs
-
-slice-aggregate-take-2 : tie.Need-slice-aggregate-take-2
-slice-aggregate-take-2 c = search needs
 
 take-requires : tie.Need-take-requires
 take-requires c κs =
     let d = c .before .before .before in
     let k = d .before .before .before .before .before .before .before .before .pre in
     (k, room-left (k .tso) (reached-there d) (reaches d .1) (d .before .before .before .before .run .kept .1 .1 .0) (d .before .before .before .before .run .kept .1 .1 .1 .0))
-
-enum-told-2 : tie.Need-enum-told-2
-enum-told-2 c = search needs
-
-enum-known-last : tie.Need-enum-known-last
-enum-known-last c = search needs
-
-slice-aggregate-returned-from : tie.Need-slice-aggregate-returned-from
-slice-aggregate-returned-from c = search needs
 
 returned-from-requires : tie.Need-returned-from-requires
 returned-from-requires c κs =
@@ -97,17 +70,17 @@ pub step-behind-spec : {M : Type 1} → statement M
 step-behind-spec =
     tie.close
     (tie.spec
-    slice-aggregate-run
-    slice-aggregate-run-2
+    (λ c. search needs)
+    (λ c. search needs)
     run-requires
-    enum-told
-    enum-known-ran
-    slice-aggregate-take
-    slice-aggregate-take-2
+    (λ c. search needs)
+    (λ c. search needs)
+    (λ c. search needs)
+    (λ c. search needs)
     take-requires
-    enum-told-2
-    enum-known-last
-    slice-aggregate-returned-from
+    (λ c. search needs)
+    (λ c. search needs)
+    (λ c. search needs)
     returned-from-requires
     returns
     returns-2

@@ -8,18 +8,6 @@ use borrow.Author.Needs.{needs}
 use Rattle.steps.proofs.take.Statement.{statement}
 use Rattle.steps.proofs.take.Tie as tie
 
-first-of-requires : tie.Need-first-of-requires
-first-of-requires c κs = search needs
-
-issue-requires : tie.Need-issue-requires
-issue-requires c κs = search needs
-
-same-length : tie.Need-same-length
-same-length c = search needs
-
-same-length-2 : tie.Need-same-length-2
-same-length-2 c = search needs
-
 returns : tie.Need-returns
 returns c s r h =
     let d = c .before .before .before .before .before .before .before .before .before .before .before .before .before in
@@ -32,21 +20,6 @@ returns-2 : tie.Need-returns-2
 returns-2 c s r h =
     let b = c .before .before .before .before .before .before .args .b in
     take-issues-none _ [] [] s b _ (c .before .before .before .if1 .taken) (c .before .before .first-of .ensures ∙ left-next _ _ _ _ s h b) (c .if2 .left)
-
-sub-first-of : tie.Need-sub-first-of
-sub-first-of c = search needs
-
-first-of-requires-2 : tie.Need-first-of-requires-2
-first-of-requires-2 c κs = search needs
-
-drain-requires : tie.Need-drain-requires
-drain-requires c κs = search needs
-
-same-length-3 : tie.Need-same-length-3
-same-length-3 c = search needs
-
-same-length-4 : tie.Need-same-length-4
-same-length-4 c = search needs
 
 returns-3 : tie.Need-returns-3
 returns-3 c s r h =
@@ -64,16 +37,16 @@ pub take-spec : {M : Type 1} → statement M
 take-spec =
     tie.close
     (tie.spec
-    first-of-requires
-    issue-requires
-    same-length
-    same-length-2
+    (λ c κs. search needs)
+    (λ c κs. search needs)
+    (λ c. search needs)
+    (λ c. search needs)
     returns
     returns-2
-    sub-first-of
-    first-of-requires-2
-    drain-requires
-    same-length-3
-    same-length-4
+    (λ c. search needs)
+    (λ c κs. search needs)
+    (λ c κs. search needs)
+    (λ c. search needs)
+    (λ c. search needs)
     returns-3
     returns-4)

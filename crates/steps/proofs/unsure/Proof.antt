@@ -5,15 +5,6 @@ use borrow.Author.Needs.{needs}
 use Rattle.steps.proofs.unsure.Statement.{statement}
 use Rattle.steps.proofs.unsure.Tie as tie
 
-cast-z : tie.Need-cast-z
-cast-z c = search needs
-
-mul-z : tie.Need-mul-z
-mul-z c = search needs
-
-element-copy-out-z : tie.Need-element-copy-out-z
-element-copy-out-z c = search needs
-
 returns : tie.Need-returns
 unfolding ofEvents
 returns c s q =
@@ -21,4 +12,4 @@ returns c s q =
     sym (unsure-is _ s _ q (d .pre .0 .tso) (d .args .w .0) (d .pre .1))
 
 pub unsure-spec : {M : Type 1} → statement M
-unsure-spec = tie.close (tie.spec cast-z mul-z element-copy-out-z returns)
+unsure-spec = tie.close (tie.spec (λ c. search needs) (λ c. search needs) (λ c. search needs) returns)

@@ -9,29 +9,8 @@ Inv-loop succ₀ preds k b left₀ succ left = Adding succ₀ preds b left succ
 abbrev μ-loop : tie.MeasureT-loop
 μ-loop succ₀ preds k b left₀ succ left = left
 
-one-requires : tie.Need-one-requires Inv-loop μ-loop
-one-requires c κs = search needs
-
-loop-holds : tie.Need-loop-holds Inv-loop μ-loop
-loop-holds c = search needs
-
-lowest-set-requires : tie.Need-lowest-set-requires Inv-loop μ-loop
-lowest-set-requires c κs = search needs
-
-cast-succ : tie.Need-cast-succ Inv-loop μ-loop
-cast-succ c = search needs
-
-mul-succ : tie.Need-mul-succ Inv-loop μ-loop
-mul-succ c = search needs
-
 element-copy-out-succ : tie.Need-element-copy-out-succ Inv-loop μ-loop
 element-copy-out-succ c = coming (c .before .before .loop .inv) (c .before .loop-test .taken) (c .lowest-set .ensures) .0
-
-cast-succ-2 : tie.Need-cast-succ-2 Inv-loop μ-loop
-cast-succ-2 c = search needs
-
-mul-succ-2 : tie.Need-mul-succ-2 Inv-loop μ-loop
-mul-succ-2 c = search needs
 
 element-write-succ : tie.Need-element-write-succ Inv-loop μ-loop
 element-write-succ c =
@@ -62,14 +41,14 @@ add-waiting-spec =
     (tie.spec
     Inv-loop
     μ-loop
-    one-requires
-    loop-holds
-    lowest-set-requires
-    cast-succ
-    mul-succ
+    (λ c κs. search needs)
+    (λ c. search needs)
+    (λ c κs. search needs)
+    (λ c. search needs)
+    (λ c. search needs)
     element-copy-out-succ
-    cast-succ-2
-    mul-succ-2
+    (λ c. search needs)
+    (λ c. search needs)
     element-write-succ
     one-requires-2
     loop-less

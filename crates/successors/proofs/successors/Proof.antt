@@ -13,15 +13,6 @@ abbrev μ-loop : tie.MeasureT-loop
 loop-holds : tie.Need-loop-holds Inv-loop μ-loop
 loop-holds c = tell-start (omega (arith, c .pre))
 
-lowest-set-requires : tie.Need-lowest-set-requires Inv-loop μ-loop
-lowest-set-requires c κs = search needs
-
-cast-add-waiting : tie.Need-cast-add-waiting Inv-loop μ-loop
-cast-add-waiting c = search needs
-
-mul-add-waiting : tie.Need-mul-add-waiting Inv-loop μ-loop
-mul-add-waiting c = search needs
-
 element-copy-out-add-waiting : tie.Need-element-copy-out-add-waiting Inv-loop μ-loop
 element-copy-out-add-waiting c =
     let d = c .before in
@@ -57,9 +48,9 @@ successors-spec =
     Inv-loop
     μ-loop
     loop-holds
-    lowest-set-requires
-    cast-add-waiting
-    mul-add-waiting
+    (λ c κs. search needs)
+    (λ c. search needs)
+    (λ c. search needs)
     element-copy-out-add-waiting
     add-waiting-requires
     one-requires

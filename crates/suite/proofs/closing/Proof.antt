@@ -4,18 +4,6 @@ use borrow.Author.Needs.{needs}
 use Rattle.suite.proofs.closing.Statement.{statement}
 use Rattle.suite.proofs.closing.Tie as tie
 
-output-requires : tie.Need-output-requires
-output-requires c κs = search needs
-
-number-requires : tie.Need-number-requires
-number-requires c κs = search needs
-
-slice-aggregate-text : tie.Need-slice-aggregate-text
-slice-aggregate-text c = search needs
-
-text-requires : tie.Need-text-requires
-text-requires c κs = search needs
-
 returns : tie.Need-returns
 returns c =
     let numbered = c .before .before in
@@ -23,4 +11,10 @@ returns c =
 
 pub closing-spec : {M : Type 1} → statement M
 closing-spec =
-    tie.close (tie.spec output-requires number-requires slice-aggregate-text text-requires returns)
+    tie.close
+    (tie.spec
+    (λ c κs. search needs)
+    (λ c κs. search needs)
+    (λ c. search needs)
+    (λ c κs. search needs)
+    returns)

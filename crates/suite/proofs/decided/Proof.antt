@@ -5,37 +5,10 @@ use borrow.Author.Needs.{needs}
 use Rattle.suite.proofs.decided.Statement.{statement}
 use Rattle.suite.proofs.decided.Tie as tie
 
-slice-aggregate-search : tie.Need-slice-aggregate-search
-slice-aggregate-search c = search needs
-
-search-requires : tie.Need-search-requires
-search-requires c κs = search needs
-
-output-requires : tie.Need-output-requires
-output-requires c κs = search needs
-
-slice-aggregate-text : tie.Need-slice-aggregate-text
-slice-aggregate-text c = search needs
-
-text-requires : tie.Need-text-requires
-text-requires c κs = search needs
-
-number-requires : tie.Need-number-requires
-number-requires c κs = search needs
-
-slice-aggregate-text-2 : tie.Need-slice-aggregate-text-2
-slice-aggregate-text-2 c = search needs
-
-text-requires-2 : tie.Need-text-requires-2
-text-requires-2 c κs = search needs
-
 replied-requires : tie.Need-replied-requires
 replied-requires c κs =
     let s = c .before .before .before .before .before .before .before .before .before .search in
     order-within (s .result) _ _ (s .ensures .0) (s .ensures .1 .1)
-
-same-length : tie.Need-same-length
-same-length c = search needs
 
 returns : tie.Need-returns
 returns c =
@@ -56,14 +29,14 @@ pub decided-spec : {M : Type 1} → statement M
 decided-spec =
     tie.close
     (tie.spec
-    slice-aggregate-search
-    search-requires
-    output-requires
-    slice-aggregate-text
-    text-requires
-    number-requires
-    slice-aggregate-text-2
-    text-requires-2
+    (λ c. search needs)
+    (λ c κs. search needs)
+    (λ c κs. search needs)
+    (λ c. search needs)
+    (λ c κs. search needs)
+    (λ c κs. search needs)
+    (λ c. search needs)
+    (λ c κs. search needs)
     replied-requires
-    same-length
+    (λ c. search needs)
     returns)

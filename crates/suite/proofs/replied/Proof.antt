@@ -14,21 +14,6 @@ use borrow.Author.Needs.{needs}
 use Rattle.suite.proofs.replied.Statement.{statement}
 use Rattle.suite.proofs.replied.Tie as tie
 
-enum-known-reply : tie.Need-enum-known-reply
-enum-known-reply c = search needs
-
-slice-aggregate-item : tie.Need-slice-aggregate-item
-slice-aggregate-item c = search needs
-
-number-requires : tie.Need-number-requires
-number-requires c κs = search needs
-
-item-requires : tie.Need-item-requires
-item-requires c κs = search needs
-
-enum-known-reply-2 : tie.Need-enum-known-reply-2
-enum-known-reply-2 c = search needs
-
 ended-requires : tie.Need-ended-requires
 ended-requires c κs =
     let known = c .before in
@@ -53,11 +38,11 @@ pub replied-spec : {M : Type 1} → statement M
 replied-spec =
     tie.close
     (tie.spec
-    enum-known-reply
-    slice-aggregate-item
-    number-requires
-    item-requires
-    enum-known-reply-2
+    (λ c. search needs)
+    (λ c. search needs)
+    (λ c κs. search needs)
+    (λ c κs. search needs)
+    (λ c. search needs)
     ended-requires
     returns
     returns-2)

@@ -11,17 +11,8 @@ use Rattle.suite_walk.proofs.good_two.Tie as tie
 abbrev passed : Refused → Bool
 passed r = unless r true false
 
-test-requires : tie.Need-test-requires
-test-requires c κs = search needs
-
 returns : tie.Need-returns
 returns c = sym (good-not _ _ (λ e. c .if1 .taken (ap length (c .before .test .ensures) ∙ e)))
-
-read-requires : tie.Need-read-requires
-read-requires c κs = search needs
-
-accepted-requires : tie.Need-accepted-requires
-accepted-requires c κs = search needs
 
 returns-2 : tie.Need-returns-2
 returns-2 c =
@@ -31,4 +22,4 @@ returns-2 c =
 
 pub good-two-spec : {M : Type 1} → statement M
 good-two-spec =
-    tie.close (tie.spec test-requires returns read-requires accepted-requires returns-2)
+    tie.close (tie.spec (λ c κs. search needs) returns (λ c κs. search needs) (λ c κs. search needs) returns-2)

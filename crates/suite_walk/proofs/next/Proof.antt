@@ -5,20 +5,8 @@ use borrow.Author.Needs.{needs}
 use Rattle.suite_walk.proofs.next.Statement.{statement}
 use Rattle.suite_walk.proofs.next.Tie as tie
 
-blocks-requires : tie.Need-blocks-requires
-blocks-requires c κs = search needs
-
 returns : tie.Need-returns
 returns c = next-past _ _ _ (c .before .blocks2 .ensures) (omega (arith, c .if1 .taken))
-
-good-two-requires : tie.Need-good-two-requires
-good-two-requires c κs = search needs
-
-add-result : tie.Need-add-result
-add-result c = search needs
-
-add-result-2 : tie.Need-add-result-2
-add-result-2 c = search needs
 
 returns-2 : tie.Need-returns-2
 returns-2 c =
@@ -34,10 +22,10 @@ pub next-spec : {M : Type 1} → statement M
 next-spec =
     tie.close
     (tie.spec
-    blocks-requires
+    (λ c κs. search needs)
     returns
-    good-two-requires
-    add-result
-    add-result-2
+    (λ c κs. search needs)
+    (λ c. search needs)
+    (λ c. search needs)
     returns-2
     returns-3)

@@ -8,14 +8,8 @@ use borrow.Author.Needs.{needs}
 use Rattle.suite_walk.proofs.test.Statement.{statement}
 use Rattle.suite_walk.proofs.test.Tie as tie
 
-block-requires : tie.Need-block-requires
-block-requires c κs = search needs
-
 returns : tie.Need-returns
 returns c = test-part _ _ _ (c .before .block .ensures) (c .if1 .taken)
-
-begins-two-requires : tie.Need-begins-two-requires
-begins-two-requires c κs = search needs
 
 returns-2 : tie.Need-returns-2
 returns-2 c = test-one _ _ _ _ (c .before .before .before .block .ensures) (c .before .begins-two .ensures) (not-true _ (c .if2 .taken))
@@ -37,25 +31,10 @@ sub-result c = omega (arith, whole (c .before))
 part-result-start : tie.Need-part-result-start
 part-result-start c = omega (arith, whole (c .before))
 
-part-result-end : tie.Need-part-result-end
-part-result-end c = search needs
-
 returns-3 : tie.Need-returns-3
 returns-3 c =
     test-last _ _ _ _ (c .before .before .before .before .before .block .ensures)
     (c .before .before .before .begins-two .ensures) (not-false _ (c .before .before .if2 .left)) (c .before .if3 .taken)
-
-add-result : tie.Need-add-result
-add-result c = search needs
-
-sub-result-2 : tie.Need-sub-result-2
-sub-result-2 c = search needs
-
-part-result-start-2 : tie.Need-part-result-start-2
-part-result-start-2 c = search needs
-
-part-result-end-2 : tie.Need-part-result-end-2
-part-result-end-2 c = search needs
 
 returns-4 : tie.Need-returns-4
 returns-4 c =
@@ -66,18 +45,18 @@ pub test-spec : {M : Type 1} → statement M
 test-spec =
     tie.close
     (tie.spec
-    block-requires
+    (λ c κs. search needs)
     returns
-    begins-two-requires
+    (λ c κs. search needs)
     returns-2
     mul-from
     sub-if3
     sub-result
     part-result-start
-    part-result-end
+    (λ c. search needs)
     returns-3
-    add-result
-    sub-result-2
-    part-result-start-2
-    part-result-end-2
+    (λ c. search needs)
+    (λ c. search needs)
+    (λ c. search needs)
+    (λ c. search needs)
     returns-4)

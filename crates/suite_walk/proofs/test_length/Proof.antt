@@ -4,11 +4,8 @@ use borrow.Author.Needs.{needs}
 use Rattle.suite_walk.proofs.test_length.Statement.{statement}
 use Rattle.suite_walk.proofs.test_length.Tie as tie
 
-test-requires : tie.Need-test-requires
-test-requires c κs = search needs
-
 returns : tie.Need-returns
 returns c = ap length (c .test .ensures)
 
 pub test-length-spec : {M : Type 1} → statement M
-test-length-spec = tie.close (tie.spec test-requires returns)
+test-length-spec = tie.close (tie.spec (λ c κs. search needs) returns)

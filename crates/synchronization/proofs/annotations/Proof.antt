@@ -5,12 +5,9 @@ use borrow.Author.Needs.{needs}
 use Rattle.synchronization.proofs.annotations.Statement.{statement}
 use Rattle.synchronization.proofs.annotations.Tie as tie
 
-added-requires : tie.Need-added-requires
-added-requires c κs = search needs
-
 returns : tie.Need-returns
 unfolding annotations
 returns c = ap (bitOr (c .before .before .args .e .flags)) (c .before .added .ensures)
 
 pub annotations-spec : {M : Type 1} → statement M
-annotations-spec = tie.close (tie.spec added-requires returns)
+annotations-spec = tie.close (tie.spec (λ c κs. search needs) returns)

@@ -15,44 +15,8 @@ Inv-loop a b t x y m₀ m = Scanned (separates t (a .0) (b .0)) (t .count) m
 abbrev μ-loop : tie.MeasureT-loop
 μ-loop a b t x y m₀ m = t .count - m
 
-cast-x : tie.Need-cast-x Inv-loop μ-loop
-cast-x c = search needs
-
-mul-x : tie.Need-mul-x Inv-loop μ-loop
-mul-x c = search needs
-
-element-copy-out-x : tie.Need-element-copy-out-x Inv-loop μ-loop
-element-copy-out-x c = search needs
-
-cast-y : tie.Need-cast-y Inv-loop μ-loop
-cast-y c = search needs
-
-mul-y : tie.Need-mul-y Inv-loop μ-loop
-mul-y c = search needs
-
-element-copy-out-y : tie.Need-element-copy-out-y Inv-loop μ-loop
-element-copy-out-y c = search needs
-
 loop-holds : tie.Need-loop-holds Inv-loop μ-loop
 loop-holds c = scan-start _ _
-
-cast-f : tie.Need-cast-f Inv-loop μ-loop
-cast-f c = search needs
-
-mul-f : tie.Need-mul-f Inv-loop μ-loop
-mul-f c = search needs
-
-element-copy-out-f : tie.Need-element-copy-out-f Inv-loop μ-loop
-element-copy-out-f c = search needs
-
-between-requires : tie.Need-between-requires Inv-loop μ-loop
-between-requires c κs = search needs
-
-fence-orders-requires : tie.Need-fence-orders-requires Inv-loop μ-loop
-fence-orders-requires c κs = search needs
-
-tso-orders-requires : tie.Need-tso-orders-requires Inv-loop μ-loop
-tso-orders-requires c κs = search needs
 
 returns : tie.Need-returns Inv-loop μ-loop
 unfolding rule4 separates fenceOrders tsoOrders ofEvents
@@ -62,12 +26,6 @@ returns c =
     let c1 = c2 .before in
     sym (some-hit _ _ _ (c1 .before .before .before .loop .inv) (omega arith)
     (rw (c1 .between .ensures, c2 .fence-orders .ensures, c3 .tso-orders .ensures) at (c .if1 .taken)))
-
-add-m : tie.Need-add-m Inv-loop μ-loop
-add-m c = search needs
-
-loop-less : tie.Need-loop-less Inv-loop μ-loop
-loop-less c = search needs
 
 loop-again : tie.Need-loop-again Inv-loop μ-loop
 unfolding separates fenceOrders tsoOrders ofEvents
@@ -88,21 +46,21 @@ rule4-spec =
     (tie.spec
     Inv-loop
     μ-loop
-    cast-x
-    mul-x
-    element-copy-out-x
-    cast-y
-    mul-y
-    element-copy-out-y
+    (λ c. search needs)
+    (λ c. search needs)
+    (λ c. search needs)
+    (λ c. search needs)
+    (λ c. search needs)
+    (λ c. search needs)
     loop-holds
-    cast-f
-    mul-f
-    element-copy-out-f
-    between-requires
-    fence-orders-requires
-    tso-orders-requires
+    (λ c. search needs)
+    (λ c. search needs)
+    (λ c. search needs)
+    (λ c κs. search needs)
+    (λ c κs. search needs)
+    (λ c κs. search needs)
     returns
-    add-m
-    loop-less
+    (λ c. search needs)
+    (λ c. search needs)
     loop-again
     returns-2)

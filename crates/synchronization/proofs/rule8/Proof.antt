@@ -3,12 +3,9 @@ use borrow.Author.Needs.{needs}
 use Rattle.synchronization.proofs.rule8.Statement.{statement}
 use Rattle.synchronization.proofs.rule8.Tie as tie
 
-paired-requires : tie.Need-paired-requires
-paired-requires c κs = search needs
-
 returns : tie.Need-returns
 unfolding rule8
 returns c = c .paired .ensures
 
 pub rule8-spec : {M : Type 1} → statement M
-rule8-spec = tie.close (tie.spec paired-requires returns)
+rule8-spec = tie.close (tie.spec (λ c κs. search needs) returns)

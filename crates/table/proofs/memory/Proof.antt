@@ -4,14 +4,8 @@ use borrow.Author.Needs.{needs}
 use Rattle.table.proofs.memory.Statement.{statement}
 use Rattle.table.proofs.memory.Tie as tie
 
-reads-requires : tie.Need-reads-requires
-reads-requires c κs = search needs
-
-writes-requires : tie.Need-writes-requires
-writes-requires c κs = search needs
-
 returns : tie.Need-returns
 returns c = ap₂ _||_ (c .before .reads .ensures) (c .writes .ensures)
 
 pub memory-spec : {M : Type 1} → statement M
-memory-spec = tie.close (tie.spec reads-requires writes-requires returns)
+memory-spec = tie.close (tie.spec (λ c κs. search needs) (λ c κs. search needs) returns)

@@ -16,27 +16,6 @@ abbrev μ-loop : tie.MeasureT-loop
 loop-holds : tie.Need-loop-holds Inv-loop μ-loop
 loop-holds c = gather-start _ _
 
-cast-memory : tie.Need-cast-memory Inv-loop μ-loop
-cast-memory c = search needs
-
-mul-memory : tie.Need-mul-memory Inv-loop μ-loop
-mul-memory c = search needs
-
-element-copy-out-memory : tie.Need-element-copy-out-memory Inv-loop μ-loop
-element-copy-out-memory c = search needs
-
-memory-requires : tie.Need-memory-requires Inv-loop μ-loop
-memory-requires c κs = search needs
-
-one-if-requires : tie.Need-one-if-requires Inv-loop μ-loop
-one-if-requires c κs = search needs
-
-add-e : tie.Need-add-e Inv-loop μ-loop
-add-e c = search needs
-
-loop-less : tie.Need-loop-less Inv-loop μ-loop
-loop-less c = search needs
-
 loop-again : tie.Need-loop-again Inv-loop μ-loop
 unfolding ofEvents
 loop-again c =
@@ -54,12 +33,12 @@ memory-mask-spec =
     Inv-loop
     μ-loop
     loop-holds
-    cast-memory
-    mul-memory
-    element-copy-out-memory
-    memory-requires
-    one-if-requires
-    add-e
-    loop-less
+    (λ c. search needs)
+    (λ c. search needs)
+    (λ c. search needs)
+    (λ c κs. search needs)
+    (λ c κs. search needs)
+    (λ c. search needs)
+    (λ c. search needs)
     loop-again
     returns)

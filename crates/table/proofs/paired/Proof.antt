@@ -14,30 +14,6 @@ lr-before-sc : (t : Table) (a b : ℕ) (p : Bool) → p ≡ po t a b
     → (p && eqb (kind t a) lr && eqb (kind t b) sc) ≡ (po t a b && eqb (kind t a) lr && eqb (kind t b) sc)
 lr-before-sc t a b p e = ap (λ (q : Bool). q && eqb (kind t a) lr && eqb (kind t b) sc) e
 
-cast-x : tie.Need-cast-x
-cast-x c = search needs
-
-mul-x : tie.Need-mul-x
-mul-x c = search needs
-
-element-copy-out-x : tie.Need-element-copy-out-x
-element-copy-out-x c = search needs
-
-cast-y : tie.Need-cast-y
-cast-y c = search needs
-
-mul-y : tie.Need-mul-y
-mul-y c = search needs
-
-element-copy-out-y : tie.Need-element-copy-out-y
-element-copy-out-y c = search needs
-
-program-order-requires : tie.Need-program-order-requires
-program-order-requires c κs = search needs
-
-some-reserves-requires : tie.Need-some-reserves-requires
-some-reserves-requires c κs = search needs
-
 returns : tie.Need-returns
 unfolding paired po hart kind event
 returns c =
@@ -54,13 +30,13 @@ pub paired-spec : {M : Type 1} → statement M
 paired-spec =
     tie.close
     (tie.spec
-    cast-x
-    mul-x
-    element-copy-out-x
-    cast-y
-    mul-y
-    element-copy-out-y
-    program-order-requires
-    some-reserves-requires
+    (λ c. search needs)
+    (λ c. search needs)
+    (λ c. search needs)
+    (λ c. search needs)
+    (λ c. search needs)
+    (λ c. search needs)
+    (λ c κs. search needs)
+    (λ c κs. search needs)
     returns
     returns-2)

@@ -5,9 +5,6 @@ use borrow.Author.Needs.{needs}
 use Rattle.table_lines.proofs.as_block.Statement.{statement}
 use Rattle.table_lines.proofs.as_block.Tie as tie
 
-text-line7-requires : tie.Need-text-line7-requires
-text-line7-requires c κs = search needs
-
 returns : tie.Need-returns
 unfolding asBlock
 returns c = ap (λ (b : Bool). bare b (c .before .before .args .e)) (sym (sym (c .before .text-line7 .ensures) ∙ c .if1 .taken))
@@ -17,4 +14,4 @@ unfolding asBlock
 returns-2 c = ap (λ (b : Bool). bare b (c .before .before .args .e)) (sym (sym (c .before .text-line7 .ensures) ∙ c .if1 .left))
 
 pub as-block-spec : {M : Type 1} → statement M
-as-block-spec = tie.close (tie.spec text-line7-requires returns returns-2)
+as-block-spec = tie.close (tie.spec (λ c κs. search needs) returns returns-2)

@@ -16,29 +16,14 @@ Inv-loop t named used x₀ x = Scanned (λ y. not (touched t y) && not (bit name
 abbrev μ-loop : tie.MeasureT-loop
 μ-loop t named used x₀ x = t .locations - x
 
-touched-requires : tie.Need-touched-requires Inv-loop μ-loop
-touched-requires c κs = search needs
-
 loop-holds : tie.Need-loop-holds Inv-loop μ-loop
 loop-holds c = scan-start _ _
-
-cast-has : tie.Need-cast-has Inv-loop μ-loop
-cast-has c = search needs
-
-has-requires : tie.Need-has-requires Inv-loop μ-loop
-has-requires c κs = search needs
 
 returns : tie.Need-returns Inv-loop μ-loop
 unfolding line21
 returns c =
     let b4 = c .before .before .before .before in
     sym (some-hit _ _ _ (b4 .loop .inv) (omega arith) (sym (unused-at _ _ _ (b4 .before .touched .ensures) _) ∙ rw (c .before .has .ensures) at (c .if2 .taken)))
-
-add-x : tie.Need-add-x Inv-loop μ-loop
-add-x c = search needs
-
-loop-less : tie.Need-loop-less Inv-loop μ-loop
-loop-less c = search needs
 
 loop-again : tie.Need-loop-again Inv-loop μ-loop
 loop-again c =
@@ -55,12 +40,12 @@ line21-spec =
     (tie.spec
     Inv-loop
     μ-loop
-    touched-requires
+    (λ c κs. search needs)
     loop-holds
-    cast-has
-    has-requires
+    (λ c. search needs)
+    (λ c κs. search needs)
     returns
-    add-x
-    loop-less
+    (λ c. search needs)
+    (λ c. search needs)
     loop-again
     returns-2)

@@ -8,21 +8,9 @@ use borrow.Author.Needs.{needs}
 use Rattle.table_lines.proofs.refuse.Statement.{statement}
 use Rattle.table_lines.proofs.refuse.Tie as tie
 
-line5-requires : tie.Need-line5-requires
-line5-requires c κs = search needs
-
 returns : tie.Need-returns
 unfolding tableLinesBy line5
 returns c = whole-here _ _ _ _ (sym (c .before .line5 .ensures) ∙ c .if1 .taken)
-
-initial-not-zero-requires : tie.Need-initial-not-zero-requires
-initial-not-zero-requires c κs = search needs
-
-final-not-zero-requires : tie.Need-final-not-zero-requires
-final-not-zero-requires c κs = search needs
-
-past-not-blank-requires : tie.Need-past-not-blank-requires
-past-not-blank-requires c κs = search needs
 
 -- line 5 doesn't hold
 past5 : (c : tie.Else1) → line5 (c .before .before .args .most) (c .before .before .args .t) ≡ false
@@ -54,11 +42,11 @@ pub refuse-spec : {M : Type 1} → statement M
 refuse-spec =
     tie.close
     (tie.spec
-    line5-requires
+    (λ c κs. search needs)
     returns
-    initial-not-zero-requires
-    final-not-zero-requires
-    past-not-blank-requires
+    (λ c κs. search needs)
+    (λ c κs. search needs)
+    (λ c κs. search needs)
     returns-2
     refuse-events-requires
     returns-3)

@@ -6,18 +6,6 @@ use borrow.Author.Needs.{needs}
 use Rattle.table_lines.proofs.refuse_events.Statement.{statement}
 use Rattle.table_lines.proofs.refuse_events.Tie as tie
 
-refuse-records-requires : tie.Need-refuse-records-requires
-refuse-records-requires c κs = search needs
-
-enum-known-refusal : tie.Need-enum-known-refusal
-enum-known-refusal c = search needs
-
-enum-known-refusal-2 : tie.Need-enum-known-refusal-2
-enum-known-refusal-2 c = search needs
-
-enum-told : tie.Need-enum-told
-enum-told c = search needs
-
 line21-requires : tie.Need-line21-requires
 line21-requires c κs =
     let b2 = c .before .before in
@@ -50,10 +38,10 @@ pub refuse-events-spec : {M : Type 1} → statement M
 refuse-events-spec =
     tie.close
     (tie.spec
-    refuse-records-requires
-    enum-known-refusal
-    enum-known-refusal-2
-    enum-told
+    (λ c κs. search needs)
+    (λ c. search needs)
+    (λ c. search needs)
+    (λ c. search needs)
     line21-requires
     returns
     returns-2

@@ -9,12 +9,6 @@ use borrow.Author.Needs.{needs}
 use Rattle.table_lines.proofs.refuse_records.Statement.{statement}
 use Rattle.table_lines.proofs.refuse_records.Tie as tie
 
-mark-records-requires : tie.Need-mark-records-requires
-mark-records-requires c κs = search needs
-
-lowest-set-requires : tie.Need-lowest-set-requires
-lowest-set-requires c κs = search needs
-
 fits7 : tie.Need-cast-t5
 fits7 c =
     let marked = c .before .before .before in
@@ -27,9 +21,6 @@ unfolding recordLines recordLinesBy
 returns c =
     let marked = c .before .before .before in
     marked-here _ _ _ (marked .mark-records .ensures .0) (marked .before .pre) _ _ _ (c .before .if1 .taken) (c .lowest-set .ensures)
-
-lowest-set-requires-2 : tie.Need-lowest-set-requires-2
-lowest-set-requires-2 c κs = search needs
 
 fits8 : tie.Need-cast-t8
 fits8 c =
@@ -45,12 +36,6 @@ returns-2 c =
     let marked = past7 .before .before in
     marked-next _ _ _ (marked .mark-records .ensures .0) _ _ _ (past7 .if1 .left)
     (marked-here _ _ _ (marked .mark-records .ensures .1 .0) (marked .before .pre) _ _ _ (c .before .if2 .taken) (c .lowest-set2 .ensures))
-
-some-may-break-requires : tie.Need-some-may-break-requires
-some-may-break-requires c κs = search needs
-
-refuse-related-requires : tie.Need-refuse-related-requires
-refuse-related-requires c κs = search needs
 
 -- lines 7 and 8 hold of no record
 past8 : (c : tie.Else2) (r : Refused) →
@@ -91,15 +76,15 @@ pub refuse-records-spec : {M : Type 1} → statement M
 refuse-records-spec =
     tie.close
     (tie.spec
-    mark-records-requires
-    lowest-set-requires
+    (λ c κs. search needs)
+    (λ c κs. search needs)
     fits7
     returns
-    lowest-set-requires-2
+    (λ c κs. search needs)
     fits8
     returns-2
-    some-may-break-requires
-    refuse-related-requires
+    (λ c κs. search needs)
+    (λ c κs. search needs)
     returns-3
     returns-4
     returns-5)

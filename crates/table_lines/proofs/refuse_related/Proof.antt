@@ -7,14 +7,8 @@ use borrow.Author.Needs.{needs}
 use Rattle.table_lines.proofs.refuse_related.Statement.{statement}
 use Rattle.table_lines.proofs.refuse_related.Tie as tie
 
-lowest9-requires : tie.Need-lowest9-requires
-lowest9-requires c κs = search needs
-
 returns : tie.Need-returns
 returns c = record-here _ _ _ _ _ (c .before .before .before .lowest9 .ensures) (c .if1 .taken)
-
-lowest10-requires : tie.Need-lowest10-requires
-lowest10-requires c κs = search needs
 
 returns-2 : tie.Need-returns-2
 returns-2 c =
@@ -40,4 +34,4 @@ returns-4 c =
 
 pub refuse-related-spec : {M : Type 1} → statement M
 refuse-related-spec =
-    tie.close (tie.spec lowest9-requires returns lowest10-requires returns-2 returns-3 returns-4)
+    tie.close (tie.spec (λ c κs. search needs) returns (λ c κs. search needs) returns-2 returns-3 returns-4)

@@ -10,22 +10,13 @@ use borrow.Author.Needs.{needs}
 use Rattle.table_lines.proofs.refuse_text.Statement.{statement}
 use Rattle.table_lines.proofs.refuse_text.Tie as tie
 
-cast-if1 : tie.Need-cast-if1
-cast-if1 c = search needs
-
 returns : tie.Need-returns
 unfolding tableLinesBy
 returns c = whole-here _ _ _ _ (too-many (mostEvents two) _ (lt-ltb _ _ (c .if1 .taken)))
-
-table-as-block-requires : tie.Need-table-as-block-requires
-table-as-block-requires c κs = search needs
-
-refuse-requires : tie.Need-refuse-requires
-refuse-requires c κs = search needs
 
 returns-2 : tie.Need-returns-2
 returns-2 c = c .refuse .ensures ∙ all-named _ (mostEvents two) _ ∙ text-lines _ _ (c .before .table-as-block .ensures) (mostEvents two)
 
 pub refuse-text-spec : {M : Type 1} → statement M
 refuse-text-spec =
-    tie.close (tie.spec cast-if1 returns table-as-block-requires refuse-requires returns-2)
+    tie.close (tie.spec (λ c. search needs) returns (λ c κs. search needs) (λ c κs. search needs) returns-2)

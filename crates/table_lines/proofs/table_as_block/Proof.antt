@@ -17,33 +17,6 @@ abbrev μ-loop : tie.MeasureT-loop
 loop-holds : tie.Need-loop-holds Inv-loop μ-loop
 loop-holds c = (omega arith, turn-start _ (simp length-map at (c .before .good .0 .1 .1 .1 .1 .1 .1 .1 .1 .0 .1 .0 .1)))
 
-cast-as-block : tie.Need-cast-as-block Inv-loop μ-loop
-cast-as-block c = search needs
-
-mul-as-block : tie.Need-mul-as-block Inv-loop μ-loop
-mul-as-block c = search needs
-
-element-copy-out-as-block : tie.Need-element-copy-out-as-block Inv-loop μ-loop
-element-copy-out-as-block c = search needs
-
-as-block-requires : tie.Need-as-block-requires Inv-loop μ-loop
-as-block-requires c κs = search needs
-
-cast-events : tie.Need-cast-events Inv-loop μ-loop
-cast-events c = search needs
-
-mul-events : tie.Need-mul-events Inv-loop μ-loop
-mul-events c = search needs
-
-array-set-from-events : tie.Need-array-set-from-events Inv-loop μ-loop
-array-set-from-events c = search needs
-
-add-k : tie.Need-add-k Inv-loop μ-loop
-add-k c = search needs
-
-loop-less : tie.Need-loop-less Inv-loop μ-loop
-loop-less c = search needs
-
 loop-again : tie.Need-loop-again Inv-loop μ-loop
 unfolding event
 loop-again c =
@@ -72,14 +45,14 @@ table-as-block-spec =
     Inv-loop
     μ-loop
     loop-holds
-    cast-as-block
-    mul-as-block
-    element-copy-out-as-block
-    as-block-requires
-    cast-events
-    mul-events
-    array-set-from-events
-    add-k
-    loop-less
+    (λ c. search needs)
+    (λ c. search needs)
+    (λ c. search needs)
+    (λ c κs. search needs)
+    (λ c. search needs)
+    (λ c. search needs)
+    (λ c. search needs)
+    (λ c. search needs)
+    (λ c. search needs)
     loop-again
     returns)

@@ -17,29 +17,11 @@ abbrev μ-loop : tie.MeasureT-loop
 loop-holds : tie.Need-loop-holds Inv-loop μ-loop
 loop-holds c = (omega arith, touches-start _)
 
-cast-e : tie.Need-cast-e Inv-loop μ-loop
-cast-e c = search needs
-
-mul-e : tie.Need-mul-e Inv-loop μ-loop
-mul-e c = search needs
-
-element-copy-out-e : tie.Need-element-copy-out-e Inv-loop μ-loop
-element-copy-out-e c = search needs
-
-memory-requires : tie.Need-memory-requires Inv-loop μ-loop
-memory-requires c κs = search needs
-
 one-if-requires : tie.Need-one-if-requires Inv-loop μ-loop
 unfolding ofEvents
 one-if-requires c κs =
     let b3 = c .before .before .before in
     omega (arith, b3 .before .pre .1, b3 .before .pre .2 (b3 .loop .k) (omega arith))
-
-add-k : tie.Need-add-k Inv-loop μ-loop
-add-k c = search needs
-
-loop-less : tie.Need-loop-less Inv-loop μ-loop
-loop-less c = search needs
 
 loop-again : tie.Need-loop-again Inv-loop μ-loop
 unfolding ofEvents
@@ -61,12 +43,12 @@ touched-spec =
     Inv-loop
     μ-loop
     loop-holds
-    cast-e
-    mul-e
-    element-copy-out-e
-    memory-requires
+    (λ c. search needs)
+    (λ c. search needs)
+    (λ c. search needs)
+    (λ c κs. search needs)
     one-if-requires
-    add-k
-    loop-less
+    (λ c. search needs)
+    (λ c. search needs)
     loop-again
     returns)

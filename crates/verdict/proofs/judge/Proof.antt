@@ -40,9 +40,6 @@ skip-3 c v h = skip-2 (at-2 c) v (past-atomicity _ _ _ _ v (c .before .before .b
 skip-4 : (c : tie.Else4) → Skips (start (at-1 (at-2 (at-3 c)))) (λ t rf gmo. finalLine t gmo)
 skip-4 c v h = skip-3 (at-3 c) v (past-read _ _ _ _ v (c .before .before .before .lowest-value-read .ensures) (c .if4 .left) h)
 
-lowest-pair-requires : tie.Need-lowest-pair-requires
-lowest-pair-requires c κs = search needs
-
 rule-set-requires : tie.Need-rule-set-requires
 rule-set-requires c κs = (search needs, c .before .before .before .before .before .lowest-pair .ensures .within (c .before .if1 .taken), search needs, search needs)
 
@@ -52,28 +49,16 @@ returns c =
     let found = c1 .before .before .before .before .before .lowest-pair .ensures in
     ap answered (at-pair _ _ _ _ _ _ found (c1 .before .if1 .taken) (c .rule-set .ensures))
 
-lowest-load-value-requires : tie.Need-lowest-load-value-requires
-lowest-load-value-requires c κs = search needs
-
 returns-2 : tie.Need-returns-2
 returns-2 c =
     let cr = c .before .before .before in
     ap answered (skip-1 (cr .before) _ (at-load _ _ _ _ (cr .lowest-load-value .ensures) (c .if2 .taken)))
-
-lowest-lr-requires : tie.Need-lowest-lr-requires
-lowest-lr-requires c κs = search needs
-
-atomicity-writer-requires : tie.Need-atomicity-writer-requires
-atomicity-writer-requires c κs = search needs
 
 returns-3 : tie.Need-returns-3
 returns-3 c =
     let c3 = c .before in
     let cl = c3 .before .before .before in
     ap answered (skip-2 (cl .before) _ (at-atomicity _ _ _ _ _ (cl .lowest-lr .ensures) (c3 .if3 .taken) (c .atomicity-writer .ensures)))
-
-lowest-value-read-requires : tie.Need-lowest-value-read-requires
-lowest-value-read-requires c κs = search needs
 
 returns-4 : tie.Need-returns-4
 returns-4 c =
@@ -97,15 +82,15 @@ pub judge-spec : {M : Type 1} → statement M
 judge-spec =
     tie.close
     (tie.spec
-    lowest-pair-requires
+    (λ c κs. search needs)
     rule-set-requires
     returns
-    lowest-load-value-requires
+    (λ c κs. search needs)
     returns-2
-    lowest-lr-requires
-    atomicity-writer-requires
+    (λ c κs. search needs)
+    (λ c κs. search needs)
     returns-3
-    lowest-value-read-requires
+    (λ c κs. search needs)
     returns-4
     lowest-final-value-requires
     returns-5

@@ -5,31 +5,16 @@ use borrow.Author.Needs.{needs}
 use Rattle.walks.proofs.walk.Statement.{statement}
 use Rattle.walks.proofs.walk.Tie as tie
 
-length-requires : tie.Need-length-requires
-length-requires c κs = search needs
-
-array-borrow-prefix-answer : tie.Need-array-borrow-prefix-answer
-array-borrow-prefix-answer c = search needs
-
 slice-aggregate-advance : tie.Need-slice-aggregate-advance
 slice-aggregate-advance c = sym (length-take-le _ _ (omega (arith, c .before .before .length .ensures)))
-
-advance-requires : tie.Need-advance-requires
-advance-requires c κs = search needs
-
-same-length : tie.Need-same-length
-same-length c = search needs
-
-returns : tie.Need-returns
-returns c = search needs
 
 pub walk-spec : {M : Type 1} → statement M
 walk-spec =
     tie.close
     (tie.spec
-    length-requires
-    array-borrow-prefix-answer
+    (λ c κs. search needs)
+    (λ c. search needs)
     slice-aggregate-advance
-    advance-requires
-    same-length
-    returns)
+    (λ c κs. search needs)
+    (λ c. search needs)
+    (λ c. search needs))

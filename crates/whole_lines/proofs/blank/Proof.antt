@@ -1,5 +1,4 @@
 use Rattle.refusals.specs.TableLines.{blank}
-use borrow.Author.Needs.{needs}
 use Rattle.whole_lines.proofs.blank.Statement.{statement}
 use Rattle.whole_lines.proofs.blank.Tie as tie
 

@@ -43,32 +43,11 @@ abbrev μ-loop : tie.MeasureT-loop
 loop-holds : tie.Need-loop-holds Inv-loop μ-loop
 loop-holds c = blank-start _ (search needs)
 
-cast-loop : tie.Need-cast-loop Inv-loop μ-loop
-cast-loop c = search needs
-
-cast-blank : tie.Need-cast-blank Inv-loop μ-loop
-cast-blank c = search needs
-
-mul-blank : tie.Need-mul-blank Inv-loop μ-loop
-mul-blank c = search needs
-
-element-copy-out-blank : tie.Need-element-copy-out-blank Inv-loop μ-loop
-element-copy-out-blank c = search needs
-
-blank-requires : tie.Need-blank-requires Inv-loop μ-loop
-blank-requires c κs = search needs
-
 returns : tie.Need-returns Inv-loop μ-loop
 unfolding event
 returns c =
     let v = c .before .before .before .before .loop in
     sym (some-at capacity _ (v .k) (omega arith) (sym (asked _ (v .k) (v .inv .past)) ∙ rw (c .before .blank .ensures) at (c .if1 .taken)))
-
-add-k : tie.Need-add-k Inv-loop μ-loop
-add-k c = search needs
-
-loop-less : tie.Need-loop-less Inv-loop μ-loop
-loop-less c = search needs
 
 loop-again : tie.Need-loop-again Inv-loop μ-loop
 unfolding event
@@ -84,13 +63,13 @@ past-not-blank-spec =
     Inv-loop
     μ-loop
     loop-holds
-    cast-loop
-    cast-blank
-    mul-blank
-    element-copy-out-blank
-    blank-requires
+    (λ c. search needs)
+    (λ c. search needs)
+    (λ c. search needs)
+    (λ c. search needs)
+    (λ c κs. search needs)
     returns
-    add-k
-    loop-less
+    (λ c. search needs)
+    (λ c. search needs)
     loop-again
     returns-2)

@@ -6,15 +6,6 @@ use borrow.Author.Needs.{needs}
 use Rattle.wide_records.proofs.event_at.Statement.{statement}
 use Rattle.wide_records.proofs.event_at.Tie as tie
 
-place-requires : tie.Need-place-requires
-place-requires c κs = search needs
-
-record-at-requires : tie.Need-record-at-requires
-record-at-requires c κs = search needs
-
-no-event-requires : tie.Need-no-event-requires
-no-event-requires c κs = search needs
-
 returns : tie.Need-returns
 unfolding eventAt
 returns c = rw (lt-ltb _ _ (c .before .before .if1 .taken)) (c .record-at .ensures ∙ ap (wideRecordFrom (c .before .before .before .before .args .s .now)) (c .before .place .ensures))
@@ -25,4 +16,4 @@ returns-2 c = rw (le-ltb _ _ (c .before .if1 .left)) (c .no-event .ensures)
 
 pub event-at-spec : {M : Type 1} → statement M
 event-at-spec =
-    tie.close (tie.spec place-requires record-at-requires no-event-requires returns returns-2)
+    tie.close (tie.spec (λ c κs. search needs) (λ c κs. search needs) (λ c κs. search needs) returns returns-2)

@@ -4,21 +4,11 @@ use borrow.Author.Needs.{needs}
 use Rattle.witness_walk.proofs.enters.Statement.{statement}
 use Rattle.witness_walk.proofs.enters.Tie as tie
 
--- src/lib.rt:63:8
-has-requires : tie.Need-has-requires
-has-requires c κs = search needs
-
--- src/lib.rt:64:9
-reads-stated-requires : tie.Need-reads-stated-requires
-reads-stated-requires c κs = search needs
-
--- src/lib.rt:59:1
 returns : tie.Need-returns
 returns c = rw (sym (c .before .before .has .ensures) ∙ c .before .if1 .taken) (tell-stated _ _ _ (c .reads-stated .ensures))
 
--- src/lib.rt:59:1
 returns-2 : tie.Need-returns-2
 returns-2 c = rw (sym (c .before .has .ensures) ∙ c .if1 .left) refl
 
 pub enters-spec : {M : Type 1} → statement M
-enters-spec = tie.close (tie.spec has-requires reads-stated-requires returns returns-2)
+enters-spec = tie.close (tie.spec (λ c κs. search needs) (λ c κs. search needs) returns returns-2)

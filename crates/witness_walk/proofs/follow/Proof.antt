@@ -20,15 +20,6 @@ room : (c : tie.Else1 Inv-loop μ-loop) →
     getD (c .before .before .before .before .args .order .now) (c .before .before .loop .i) 0 < capacity
 room c = follow-room (c .before .before .before .before .pre .0) (c .before .before .loop .inv .1) (c .before .loop-test .taken)
 
-index-1-goods : tie.Need-index-1-goods Inv-loop μ-loop
-index-1-goods c = search needs
-
-index-2-goods : tie.Need-index-2-goods Inv-loop μ-loop
-index-2-goods c = search needs
-
-element-write-goods : tie.Need-element-write-goods Inv-loop μ-loop
-element-write-goods c = search needs
-
 loop-holds : tie.Need-loop-holds Inv-loop μ-loop
 loop-holds c = (omega arith, follow-start (c .before .args .goods .now) (c .before .pre .2))
 
@@ -36,15 +27,6 @@ returns : tie.Need-returns Inv-loop μ-loop
 returns c =
     let v = c .before .before .loop in
     (follow-cut (c .before .before .before .before .pre .0) (v .inv .1) (c .before .loop-test .taken) 0 (not-true _ (c .if1 .taken)), (tt, v .inv .1 .long))
-
-element-copy-out-e : tie.Need-element-copy-out-e Inv-loop μ-loop
-element-copy-out-e c = search needs
-
-mul-enters : tie.Need-mul-enters Inv-loop μ-loop
-mul-enters c = search needs
-
-element-copy-out-enters : tie.Need-element-copy-out-enters Inv-loop μ-loop
-element-copy-out-enters c = search needs
 
 enters-requires : tie.Need-enters-requires Inv-loop μ-loop
 enters-requires c κs = room (c .before .before)
@@ -60,12 +42,6 @@ cast-one c = omega (arith, room (c .before .before .before .before .before))
 one-requires : tie.Need-one-requires Inv-loop μ-loop
 one-requires c κs = omega (arith, room (c .before .before .before .before .before))
 
-add-i : tie.Need-add-i Inv-loop μ-loop
-add-i c = search needs
-
-loop-less : tie.Need-loop-less Inv-loop μ-loop
-loop-less c = search needs
-
 loop-again : tie.Need-loop-again Inv-loop μ-loop
 loop-again c =
     let d = c .before .before .before .before .before .before in
@@ -75,9 +51,6 @@ loop-again c =
       follow-more (a .pre .0) (v .inv .1) (d .before .loop-test .taken) _ (not-false _ (d .if1 .left)) (a .pre .1)
           (c .before .before .before .enters .ensures) (c .before .note-good .ensures) (c .one .ensures),
     )
-
-mask-if-requires : tie.Need-mask-if-requires Inv-loop μ-loop
-mask-if-requires c κs = search needs
 
 returns-2 : tie.Need-returns-2 Inv-loop μ-loop
 returns-2 c =
@@ -92,20 +65,20 @@ follow-spec =
     (tie.spec
     Inv-loop
     μ-loop
-    index-1-goods
-    index-2-goods
-    element-write-goods
+    (λ c. search needs)
+    (λ c. search needs)
+    (λ c. search needs)
     loop-holds
     returns
-    element-copy-out-e
-    mul-enters
-    element-copy-out-enters
+    (λ c. search needs)
+    (λ c. search needs)
+    (λ c. search needs)
     enters-requires
     note-good-requires
     cast-one
     one-requires
-    add-i
-    loop-less
+    (λ c. search needs)
+    (λ c. search needs)
     loop-again
-    mask-if-requires
+    (λ c κs. search needs)
     returns-2)

@@ -55,9 +55,6 @@ loop-holds c =
 returns : tie.Need-returns Inv-loop μ-loop
 returns c = going-none (c .before .before .loop .inv) (c .before .if1 .taken) (c .if2 .taken)
 
-sub-keep : tie.Need-sub-keep Inv-loop μ-loop
-sub-keep c = search needs
-
 element-copy-out-e : tie.Need-element-copy-out-e Inv-loop μ-loop
 element-copy-out-e c = omega (arith, stand-room (c .before .before .loop .inv .stands))
 
@@ -70,34 +67,22 @@ take-back-requires c κs = omega (arith, last-event (c .before))
 past-requires : tie.Need-past-requires Inv-loop μ-loop
 past-requires c κs = last-event (c .before .before)
 
-loop-less : tie.Need-loop-less Inv-loop μ-loop
-loop-less c = search needs
-
 loop-again : tie.Need-loop-again Inv-loop μ-loop
 loop-again c =
     let d = c .before .before .before .before in
     let b = c .before .take-back .ensures in
     going-back (d .before .loop .inv) (d .if1 .taken) (omega arith) refl (b .0) (b .1) (c .past .ensures)
 
-spent-requires : tie.Need-spent-requires Inv-loop μ-loop
-spent-requires c κs = search needs
-
 returns-2 : tie.Need-returns-2 Inv-loop μ-loop
 returns-2 c =
     let d = c .before in
     going-spent (d .before .before .loop .inv) (d .before .if1 .left) refl _ (c .spent .ensures) (d .if3 .taken)
-
-lowest-set-requires : tie.Need-lowest-set-requires Inv-loop μ-loop
-lowest-set-requires c κs = search needs
 
 cast-order : tie.Need-cast-order Inv-loop μ-loop
 cast-order c = omega (arith, event c)
 
 element-write-order : tie.Need-element-write-order Inv-loop μ-loop
 element-write-order c = stand-room (c .before .before .before .loop .inv .stands)
-
-add-visited : tie.Need-add-visited Inv-loop μ-loop
-add-visited c = search needs
 
 one-requires : tie.Need-one-requires Inv-loop μ-loop
 one-requires c κs = omega (arith, event c)
@@ -114,9 +99,6 @@ cast-enters c = omega (arith, event (c .before .before .before))
 enters-requires : tie.Need-enters-requires Inv-loop μ-loop
 enters-requires c κs = omega (arith, event (c .before .before .before))
 
-loop-less-2 : tie.Need-loop-less-2 Inv-loop μ-loop
-loop-less-2 c = search needs
-
 loop-again-2 : tie.Need-loop-again-2 Inv-loop μ-loop
 loop-again-2 c =
     let o = c .before .before .before .before in
@@ -132,9 +114,6 @@ is-witness-requires c κs =
     let d = o .before in
     (going-fitting (inv d) (some d) (low d) (left d) refl (o .one .ensures), inv d .sighted)
 
-found-requires : tie.Need-found-requires Inv-loop μ-loop
-found-requires c κs = search needs
-
 returns-3 : tie.Need-returns-3 Inv-loop μ-loop
 returns-3 c =
     let t = c .before .before in
@@ -143,9 +122,6 @@ returns-3 c =
     let d = o .before in
     going-found (inv d) (some d) (low d) (left d) refl (o .one .ensures) _ (t .is-witness .last .1 .1 .1 .1 .0)
     (t .is-witness .last .1 .1 .1 .1 .1 .0) (w .before .if5 .taken) (t .is-witness .ensures .0) (c .before .if6 .taken) _ (c .found .ensures)
-
-loop-less-3 : tie.Need-loop-less-3 Inv-loop μ-loop
-loop-less-3 c = search needs
 
 loop-again-3 : tie.Need-loop-again-3 Inv-loop μ-loop
 loop-again-3 c =
@@ -173,9 +149,6 @@ place-requires c κs =
 add-keep : tie.Need-add-keep Inv-loop μ-loop
 add-keep c = omega (arith, stand-room (inv (c .before .before .before .before .before .before .before .before .before) .stands))
 
-loop-less-4 : tie.Need-loop-less-4 Inv-loop μ-loop
-loop-less-4 c = search needs
-
 loop-again-4 : tie.Need-loop-again-4 Inv-loop μ-loop
 loop-again-4 c =
     let n = c .before .before in
@@ -194,35 +167,35 @@ walk-spec =
     (λ c κs. search needs)
     loop-holds
     returns
-    sub-keep
+    (λ c. search needs)
     element-copy-out-e
     cast-e
     take-back-requires
     past-requires
-    loop-less
+    (λ c. search needs)
     loop-again
-    spent-requires
+    (λ c κs. search needs)
     returns-2
-    lowest-set-requires
+    (λ c κs. search needs)
     cast-order
     element-write-order
-    add-visited
+    (λ c. search needs)
     one-requires
     mul-enters
     element-copy-out-enters
     cast-enters
     enters-requires
-    loop-less-2
+    (λ c. search needs)
     loop-again-2
     add-is-witness
     is-witness-requires
-    found-requires
+    (λ c κs. search needs)
     returns-3
-    loop-less-3
+    (λ c. search needs)
     loop-again-3
     cast-note-good
     note-good-requires
     place-requires
     add-keep
-    loop-less-4
+    (λ c. search needs)
     loop-again-4)

@@ -6,14 +6,5 @@ use Rattle.writer.proofs.write.Tie as tie
 returns : tie.Need-returns
 returns c = (search (refused-short, needs), search (left-short, needs))
 
-write-whole-requires : tie.Need-write-whole-requires
-write-whole-requires c κs = search needs
-
-same-length : tie.Need-same-length
-same-length c = search needs
-
-returns-2 : tie.Need-returns-2
-returns-2 c = search needs
-
 pub write-spec : {M : Type 1} → statement M
-write-spec = tie.close (tie.spec returns write-whole-requires same-length returns-2)
+write-spec = tie.close (tie.spec returns (λ c κs. search needs) (λ c. search needs) (λ c. search needs))

@@ -6,27 +6,6 @@ use Rattle.writer.proofs.WritingLaws.{writes-whole}
 use Rattle.writer.proofs.write_whole.Statement.{statement}
 use Rattle.writer.proofs.write_whole.Tie as tie
 
-refuse-requires : tie.Need-refuse-requires
-refuse-requires c κs = search needs
-
-enum-told : tie.Need-enum-told
-enum-told c = search needs
-
-encode-requires : tie.Need-encode-requires
-encode-requires c κs = search needs
-
-copy-requires : tie.Need-copy-requires
-copy-requires c κs = search needs
-
-enum-known-refusal : tie.Need-enum-known-refusal
-enum-known-refusal c = search needs
-
-enum-known-refusal-2 : tie.Need-enum-known-refusal-2
-enum-known-refusal-2 c = search needs
-
-same-length : tie.Need-same-length
-same-length c = search needs
-
 returns : tie.Need-returns
 unfolding tableLines
 returns c =
@@ -49,13 +28,13 @@ pub write-whole-spec : {M : Type 1} → statement M
 write-whole-spec =
     tie.close
     (tie.spec
-    refuse-requires
-    enum-told
-    encode-requires
-    copy-requires
-    enum-known-refusal
-    enum-known-refusal-2
-    same-length
+    (λ c κs. search needs)
+    (λ c. search needs)
+    (λ c κs. search needs)
+    (λ c κs. search needs)
+    (λ c. search needs)
+    (λ c. search needs)
+    (λ c. search needs)
     returns
     returns-2
     returns-3)

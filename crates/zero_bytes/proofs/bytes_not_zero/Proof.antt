@@ -5,16 +5,10 @@ use borrow.Author.Needs.{needs}
 use Rattle.zero_bytes.proofs.bytes_not_zero.Statement.{statement}
 use Rattle.zero_bytes.proofs.bytes_not_zero.Tie as tie
 
-some-not-zero-requires : tie.Need-some-not-zero-requires
-some-not-zero-requires c κs = search needs
-
-some-not-zero-requires-2 : tie.Need-some-not-zero-requires-2
-some-not-zero-requires-2 c κs = search needs
-
 returns : tie.Need-returns
 unfolding bytesNotZero
 returns c = ap₂ _||_ (c .before .some-not-zero .ensures) (c .some-not-zero2 .ensures)
 
 pub bytes-not-zero-spec : {M : Type 1} → statement M
 bytes-not-zero-spec =
-    tie.close (tie.spec some-not-zero-requires some-not-zero-requires-2 returns)
+    tie.close (tie.spec (λ c κs. search needs) (λ c κs. search needs) returns)

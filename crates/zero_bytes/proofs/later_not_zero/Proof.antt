@@ -17,28 +17,10 @@ abbrev μ-loop : tie.MeasureT-loop
 loop-holds : tie.Need-loop-holds Inv-loop μ-loop
 loop-holds c = scan-start _ _
 
-add-some-not-zero : tie.Need-add-some-not-zero Inv-loop μ-loop
-add-some-not-zero c = search needs
-
-mul-some-not-zero : tie.Need-mul-some-not-zero Inv-loop μ-loop
-mul-some-not-zero c = search needs
-
-add-some-not-zero-2 : tie.Need-add-some-not-zero-2 Inv-loop μ-loop
-add-some-not-zero-2 c = search needs
-
-some-not-zero-requires : tie.Need-some-not-zero-requires Inv-loop μ-loop
-some-not-zero-requires c κs = search needs
-
 returns : tie.Need-returns Inv-loop μ-loop
 returns c =
     let v = c .before .before .before .loop in
     sym (some-hit _ _ (v .b) (v .inv) (omega arith) (sym (c .before .some-not-zero .ensures) ∙ c .if1 .taken))
-
-add-b : tie.Need-add-b Inv-loop μ-loop
-add-b c = search needs
-
-loop-less : tie.Need-loop-less Inv-loop μ-loop
-loop-less c = search needs
 
 loop-again : tie.Need-loop-again Inv-loop μ-loop
 loop-again c =
@@ -55,12 +37,12 @@ later-not-zero-spec =
     Inv-loop
     μ-loop
     loop-holds
-    add-some-not-zero
-    mul-some-not-zero
-    add-some-not-zero-2
-    some-not-zero-requires
+    (λ c. search needs)
+    (λ c. search needs)
+    (λ c. search needs)
+    (λ c κs. search needs)
     returns
-    add-b
-    loop-less
+    (λ c. search needs)
+    (λ c. search needs)
     loop-again
     returns-2)

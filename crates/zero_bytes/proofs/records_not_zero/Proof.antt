@@ -18,25 +18,10 @@ abbrev μ-loop : tie.MeasureT-loop
 loop-holds : tie.Need-loop-holds Inv-loop μ-loop
 loop-holds c = scan-start _ _
 
-place-requires : tie.Need-place-requires Inv-loop μ-loop
-place-requires c κs = search needs
-
-add-some-not-zero : tie.Need-add-some-not-zero Inv-loop μ-loop
-add-some-not-zero c = search needs
-
-some-not-zero-requires : tie.Need-some-not-zero-requires Inv-loop μ-loop
-some-not-zero-requires c κs = search needs
-
 returns : tie.Need-returns Inv-loop μ-loop
 returns c =
     let v = c .before .before .before .before .loop in
     sym (some-hit _ _ (v .k) (v .inv) (omega arith) (sym (c .before .some-not-zero .ensures ∙ ap (λ (n : ℕ). someNotZero (c .before .before .before .before .before .before .args .s .now) (n + 22) 10) (c .before .before .place .ensures)) ∙ c .if1 .taken))
-
-add-k : tie.Need-add-k Inv-loop μ-loop
-add-k c = search needs
-
-loop-less : tie.Need-loop-less Inv-loop μ-loop
-loop-less c = search needs
 
 loop-again : tie.Need-loop-again Inv-loop μ-loop
 loop-again c =
@@ -53,11 +38,11 @@ records-not-zero-spec =
     Inv-loop
     μ-loop
     loop-holds
-    place-requires
-    add-some-not-zero
-    some-not-zero-requires
+    (λ c κs. search needs)
+    (λ c. search needs)
+    (λ c κs. search needs)
     returns
-    add-k
-    loop-less
+    (λ c. search needs)
+    (λ c. search needs)
     loop-again
     returns-2)

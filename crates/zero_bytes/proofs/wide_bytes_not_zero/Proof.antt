@@ -5,18 +5,6 @@ use borrow.Author.Needs.{needs}
 use Rattle.zero_bytes.proofs.wide_bytes_not_zero.Statement.{statement}
 use Rattle.zero_bytes.proofs.wide_bytes_not_zero.Tie as tie
 
-bytes-not-zero-requires : tie.Need-bytes-not-zero-requires
-bytes-not-zero-requires c κs = search needs
-
-some-not-zero-requires : tie.Need-some-not-zero-requires
-some-not-zero-requires c κs = search needs
-
-records-not-zero-requires : tie.Need-records-not-zero-requires
-records-not-zero-requires c κs = search needs
-
-later-not-zero-requires : tie.Need-later-not-zero-requires
-later-not-zero-requires c κs = search needs
-
 returns : tie.Need-returns
 unfolding bytesNotZero
 returns c =
@@ -27,8 +15,8 @@ pub wide-bytes-not-zero-spec : {M : Type 1} → statement M
 wide-bytes-not-zero-spec =
     tie.close
     (tie.spec
-    bytes-not-zero-requires
-    some-not-zero-requires
-    records-not-zero-requires
-    later-not-zero-requires
+    (λ c κs. search needs)
+    (λ c κs. search needs)
+    (λ c κs. search needs)
+    (λ c κs. search needs)
     returns)

@@ -1,6 +1,6 @@
 //! Advice on a block.
 
-use super::{asked, before_fences, chosen, declined, empty_fences, own_fences, Advised, Finding};
+use super::{asked, before_fences, chosen, clear_fences, declined, own_fences, Advised, Finding};
 use crate::arguments::Options;
 use crate::case::Case;
 use crate::error::Error;
@@ -10,7 +10,7 @@ use crate::source::Source;
 use cogthunder::Table;
 
 pub fn advised(source: &Source, table: &Table, options: &Options) -> Result<Advised, Error> {
-    let is_own = own_fences(empty_fences(table).len(), options)?;
+    let is_own = own_fences(clear_fences(table).len(), options)?;
     let behind = if is_own {
         Vec::new()
     } else {
@@ -21,7 +21,7 @@ pub fn advised(source: &Source, table: &Table, options: &Options) -> Result<Advi
         return Err(Error::new(sentence));
     }
     let opened = with_fences(table, &behind, 0);
-    let fences = empty_fences(&opened);
+    let fences = clear_fences(&opened);
     let number = |event: u8| if is_own { event } else { before_fences(&fences, event) };
     let place = |fence: u8| fences.iter().position(|&other| other == fence).expect("it is one of them");
     let case = Case::of_table(opened.clone());

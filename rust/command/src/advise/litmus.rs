@@ -1,6 +1,6 @@
 //! Advice on a litmus test.
 
-use super::{asked, before_fences, chosen, empty_fences, own_fences, Advised, Finding};
+use super::{asked, before_fences, chosen, clear_fences, own_fences, Advised, Finding};
 use crate::arguments::Options;
 use crate::case::Case;
 use crate::choices::Choices;
@@ -52,7 +52,7 @@ fn expecting(source: &Source, test: &Test, text: String) -> Result<String, Error
     Ok(text)
 }
 
-/// The empty fences of a litmus test.
+/// The clear fences of a litmus test.
 fn fences_of(test: &Test) -> Vec<Place> {
     let mut fences = Vec::new();
     for (hart, column) in test.harts.iter().enumerate() {
@@ -93,7 +93,7 @@ type Instructed = (Table, Vec<Place>);
 fn tables(test: &Test, fences: &[Place], is_own: bool) -> Result<(Vec<String>, Vec<Instructed>), Error> {
     let (mut words, mut tables) = (BTreeMap::new(), Vec::new());
     visit(test, &mut |case, instructions| {
-        let empty = empty_fences(&case.table);
+        let empty = clear_fences(&case.table);
         let number = |event: u8| if is_own { event } else { before_fences(&empty, event) };
         for &fence in &empty {
             let place = instructions[usize::from(fence)];

@@ -5,7 +5,7 @@ mod litmus;
 
 use crate::arguments::Options;
 use crate::error::Error;
-use crate::fencing::is_empty_fence;
+use crate::fencing::is_clear_fence;
 use crate::input::{self, Contents};
 use crate::output::{complain, Output};
 use crate::source::{only_of, Kind};
@@ -38,7 +38,7 @@ pub fn run(options: &Options, out: &mut Output) -> Result<Status, String> {
 /// What was found out about a test.
 struct Advised {
     name: String,
-    /// The places of its empty fences, in words.
+    /// The places of its clear fences, in words.
     places: Vec<String>,
     finding: Finding,
     /// The test with the fences filled, where its outcome is then forbidden.
@@ -138,7 +138,7 @@ fn chosen<T: Copy>(gaps: Vec<(T, (u8, u8))>, between: &[(u8, u8)]) -> Result<Vec
     }
 }
 
-/// A test that has empty fences of its own is asked about those.
+/// A test that has clear fences of its own is asked about those.
 fn own_fences(count: usize, options: &Options) -> Result<bool, Error> {
     if count == 0 {
         return Ok(false);
@@ -156,8 +156,8 @@ fn own_fences(count: usize, options: &Options) -> Result<bool, Error> {
     Ok(true)
 }
 
-fn empty_fences(table: &Table) -> Vec<u8> {
-    (0..table.count).filter(|&number| is_empty_fence(&table.events[usize::from(number)])).collect()
+fn clear_fences(table: &Table) -> Vec<u8> {
+    (0..table.count).filter(|&number| is_clear_fence(&table.events[usize::from(number)])).collect()
 }
 
 /// The number that an event had before fences were put in.

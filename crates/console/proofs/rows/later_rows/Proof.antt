@@ -3,24 +3,6 @@ use borrow.Author.Needs.{needs}
 use Rattle.console.proofs.rows.later_rows.Statement.{statement}
 use Rattle.console.proofs.rows.later_rows.Tie as tie
 
-row-length-requires : tie.Need-row-length-requires
-row-length-requires c κs = search needs
-
-add-result : tie.Need-add-result
-add-result c = search needs
-
-sub-result : tie.Need-sub-result
-sub-result c = search needs
-
-part-result-start : tie.Need-part-result-start
-part-result-start c = search needs
-
-part-result-end : tie.Need-part-result-end
-part-result-end c = search needs
-
-slice-aggregate-result : tie.Need-slice-aggregate-result
-slice-aggregate-result c = search needs
-
 returns : tie.Need-returns
 returns c =
     let n = c .before .before .row-length in
@@ -35,11 +17,11 @@ pub later-rows-spec : {M : Type 1} → statement M
 later-rows-spec =
     tie.close
     (tie.spec
-    row-length-requires
-    add-result
-    sub-result
-    part-result-start
-    part-result-end
-    slice-aggregate-result
+    (λ c κs. search needs)
+    (λ c. search needs)
+    (λ c. search needs)
+    (λ c. search needs)
+    (λ c. search needs)
+    (λ c. search needs)
     returns
     returns-2)

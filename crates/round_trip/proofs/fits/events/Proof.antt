@@ -16,21 +16,6 @@ abbrev μ-loop : tie.MeasureT-loop
 loop-holds : tie.Need-loop-holds Inv-loop μ-loop
 loop-holds c = none-yet EventFits (c .args .t1) noEvent
 
-mul-event : tie.Need-mul-event Inv-loop μ-loop
-mul-event c = search needs
-
-array-copy-out-event : tie.Need-array-copy-out-event Inv-loop μ-loop
-array-copy-out-event c = search needs
-
-event-requires : tie.Need-event-requires Inv-loop μ-loop
-event-requires c κs = search needs
-
-add-i : tie.Need-add-i Inv-loop μ-loop
-add-i c = search needs
-
-loop-less : tie.Need-loop-less Inv-loop μ-loop
-loop-less c = search needs
-
 loop-again : tie.Need-loop-again Inv-loop μ-loop
 loop-again c = one-more EventFits (c .before .before .before .before .args .t1) noEvent _ (c .before .before .before .loop .inv) (c .event .ensures)
 
@@ -44,10 +29,10 @@ events-spec =
     Inv-loop
     μ-loop
     loop-holds
-    mul-event
-    array-copy-out-event
-    event-requires
-    add-i
-    loop-less
+    (λ c. search needs)
+    (λ c. search needs)
+    (λ c κs. search needs)
+    (λ c. search needs)
+    (λ c. search needs)
     loop-again
     returns)

@@ -8,18 +8,6 @@ use borrow.Author.Needs.{needs}
 use Rattle.suite.proofs.held.gather.Statement.{statement}
 use Rattle.suite.proofs.held.gather.Tie as tie
 
-fill-to-requires : tie.Need-fill-to-requires
-fill-to-requires c κs = search needs
-
-enum-told : tie.Need-enum-told
-enum-told c = search needs
-
-enum-known-n : tie.Need-enum-known-n
-enum-known-n c = search needs
-
-slice-reshare-prefix-begins-two : tie.Need-slice-reshare-prefix-begins-two
-slice-reshare-prefix-begins-two c = search needs
-
 slice-aggregate-begins-two : tie.Need-slice-aggregate-begins-two
 slice-aggregate-begins-two c =
     let filled = c .before .before .before .before .before .before .before .fill-to in
@@ -37,22 +25,10 @@ fill-to-requires-2 c κs =
     let held = subst (Holds _ _ _) (known .n .given .1) (filled .ensures) in
     (omega (arith, held .1, filled .kept), omega (arith, filled .kept))
 
-same-length : tie.Need-same-length
-same-length c = search needs
-
-returns : tie.Need-returns
-returns c = search needs
-
-same-length-2 : tie.Need-same-length-2
-same-length-2 c = search needs
-
 returns-2 : tie.Need-returns-2
 returns-2 c =
     let known = c .before .before in
     subst (Holds _ _ _) (known .n .given .1) (known .before .before .before .before .fill-to .ensures)
-
-same-length-3 : tie.Need-same-length-3
-same-length-3 c = search needs
 
 returns-3 : tie.Need-returns-3
 returns-3 c =
@@ -61,9 +37,6 @@ returns-3 c =
     let filled = known .before .before .before .before .fill-to in
     let held = subst (Holds _ _ _) (known .n .given .1) (filled .ensures) in
     holds-on _ _ _ _ _ (again .fill-to2 .result) (filled .kept .0) held (again .fill-to2 .ensures)
-
-same-length-4 : tie.Need-same-length-4
-same-length-4 c = search needs
 
 returns-4 : tie.Need-returns-4
 returns-4 c =
@@ -74,18 +47,18 @@ pub gather-spec : {M : Type 1} → statement M
 gather-spec =
     tie.close
     (tie.spec
-    fill-to-requires
-    enum-told
-    enum-known-n
-    slice-reshare-prefix-begins-two
+    (λ c κs. search needs)
+    (λ c. search needs)
+    (λ c. search needs)
+    (λ c. search needs)
     slice-aggregate-begins-two
     begins-two-requires
     fill-to-requires-2
-    same-length
-    returns
-    same-length-2
+    (λ c. search needs)
+    (λ c. search needs)
+    (λ c. search needs)
     returns-2
-    same-length-3
+    (λ c. search needs)
     returns-3
-    same-length-4
+    (λ c. search needs)
     returns-4)

@@ -7,25 +7,13 @@ use borrow.Author.Needs.{needs}
 use Rattle.suite.proofs.held.pass.Statement.{statement}
 use Rattle.suite.proofs.held.pass.Tie as tie
 
-slice-reshare-prefix-next : tie.Need-slice-reshare-prefix-next
-slice-reshare-prefix-next c = search needs
-
 slice-aggregate-next : tie.Need-slice-aggregate-next
 slice-aggregate-next c = sym (length-take-le _ _ (c .before .before .pre))
-
-next-requires : tie.Need-next-requires
-next-requires c κs = search needs
 
 mul-move-down : tie.Need-mul-move-down
 mul-move-down c =
     let given = c .before .before .before .before .args in
     omega (arith, c .before .next .ensures, near (take (given .held) (given .buffer .now)) 0)
-
-move-down-requires : tie.Need-move-down-requires
-move-down-requires c κs = search needs
-
-same-length : tie.Need-same-length
-same-length c = search needs
 
 returns : tie.Need-returns
 returns c =
@@ -42,10 +30,10 @@ pub pass-spec : {M : Type 1} → statement M
 pass-spec =
     tie.close
     (tie.spec
-    slice-reshare-prefix-next
+    (λ c. search needs)
     slice-aggregate-next
-    next-requires
+    (λ c κs. search needs)
     mul-move-down
-    move-down-requires
-    same-length
+    (λ c κs. search needs)
+    (λ c. search needs)
     returns)

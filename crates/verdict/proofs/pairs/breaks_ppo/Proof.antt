@@ -6,12 +6,6 @@ use borrow.Author.Needs.{needs}
 use Rattle.verdict.proofs.pairs.breaks_ppo.Statement.{statement}
 use Rattle.verdict.proofs.pairs.breaks_ppo.Tie as tie
 
-ppo-requires : tie.Need-ppo-requires
-ppo-requires c κs = search needs
-
-before-requires : tie.Need-before-requires
-before-requires c κs = search needs
-
 returns : tie.Need-returns
 unfolding breaksPpo
 returns c = ap not (c .before2 .ensures) ∙ and-taken _ _ (sym (c .before .before .ppo .ensures) ∙ c .before .if1 .taken)
@@ -21,4 +15,4 @@ unfolding breaksPpo
 returns-2 c = and-left _ _ (sym (c .before .ppo .ensures) ∙ c .if1 .left)
 
 pub breaks-ppo-spec : {M : Type 1} → statement M
-breaks-ppo-spec = tie.close (tie.spec ppo-requires before-requires returns returns-2)
+breaks-ppo-spec = tie.close (tie.spec (λ c κs. search needs) (λ c κs. search needs) returns returns-2)

@@ -25,35 +25,8 @@ abbrev μ-pairs : tie.MeasureT-pairs
 pairs-holds : tie.Need-pairs-holds Inv-loop μ-loop Inv-pairs μ-pairs
 pairs-holds c = scan-start _ _
 
-cast-x : tie.Need-cast-x Inv-loop μ-loop Inv-pairs μ-pairs
-cast-x c = search needs
-
-mul-x : tie.Need-mul-x Inv-loop μ-loop Inv-pairs μ-pairs
-mul-x c = search needs
-
-element-copy-out-x : tie.Need-element-copy-out-x Inv-loop μ-loop Inv-pairs μ-pairs
-element-copy-out-x c = search needs
-
 loop-holds : tie.Need-loop-holds Inv-loop μ-loop Inv-pairs μ-pairs
 loop-holds c = scan-start _ _
-
-cast-may-order : tie.Need-cast-may-order Inv-loop μ-loop Inv-pairs μ-pairs
-cast-may-order c = search needs
-
-mul-may-order : tie.Need-mul-may-order Inv-loop μ-loop Inv-pairs μ-pairs
-mul-may-order c = search needs
-
-element-copy-out-may-order : tie.Need-element-copy-out-may-order Inv-loop μ-loop Inv-pairs μ-pairs
-element-copy-out-may-order c = search needs
-
-may-order-requires : tie.Need-may-order-requires Inv-loop μ-loop Inv-pairs μ-pairs
-may-order-requires c κs = search needs
-
-add-b : tie.Need-add-b Inv-loop μ-loop Inv-pairs μ-pairs
-add-b c = search needs
-
-loop-less : tie.Need-loop-less Inv-loop μ-loop Inv-pairs μ-pairs
-loop-less c = search needs
 
 loop-again : tie.Need-loop-again Inv-loop μ-loop Inv-pairs μ-pairs
 unfolding mayOrder ofEvents
@@ -61,25 +34,10 @@ loop-again c =
     let v = c .before .before .before .before .loop in
     scan-more _ _ _ (v .inv) (omega arith) (cannot-break _ _ _ _ _ (not-true _ (rw (c .before .may-order .ensures) at (c .if1 .taken))))
 
-breaks-ppo-requires : tie.Need-breaks-ppo-requires Inv-loop μ-loop Inv-pairs μ-pairs
-breaks-ppo-requires c κs = search needs
-
-add-b-2 : tie.Need-add-b-2 Inv-loop μ-loop Inv-pairs μ-pairs
-add-b-2 c = search needs
-
-loop-less-2 : tie.Need-loop-less-2 Inv-loop μ-loop Inv-pairs μ-pairs
-loop-less-2 c = search needs
-
 loop-again-2 : tie.Need-loop-again-2 Inv-loop μ-loop Inv-pairs μ-pairs
 loop-again-2 c =
     let v = c .before .before .before .before .before .before .loop in
     scan-more _ _ _ (v .inv) (omega arith) (rw (c .before .breaks-ppo .ensures) at (c .if2 .left))
-
-add-a : tie.Need-add-a Inv-loop μ-loop Inv-pairs μ-pairs
-add-a c = search needs
-
-pairs-less : tie.Need-pairs-less Inv-loop μ-loop Inv-pairs μ-pairs
-pairs-less c = search needs
 
 pairs-again : tie.Need-pairs-again Inv-loop μ-loop Inv-pairs μ-pairs
 pairs-again c =
@@ -106,23 +64,23 @@ lowest-pair-spec =
     Inv-pairs
     μ-pairs
     pairs-holds
-    cast-x
-    mul-x
-    element-copy-out-x
+    (λ c. search needs)
+    (λ c. search needs)
+    (λ c. search needs)
     loop-holds
-    cast-may-order
-    mul-may-order
-    element-copy-out-may-order
-    may-order-requires
-    add-b
-    loop-less
+    (λ c. search needs)
+    (λ c. search needs)
+    (λ c. search needs)
+    (λ c κs. search needs)
+    (λ c. search needs)
+    (λ c. search needs)
     loop-again
-    breaks-ppo-requires
-    add-b-2
-    loop-less-2
+    (λ c κs. search needs)
+    (λ c. search needs)
+    (λ c. search needs)
     loop-again-2
-    add-a
-    pairs-less
+    (λ c. search needs)
+    (λ c. search needs)
     pairs-again
     returns
     returns-2)

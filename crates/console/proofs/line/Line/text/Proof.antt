@@ -23,23 +23,11 @@ abbrev μ-loop : tie.MeasureT-loop
 loop-holds : tie.Need-loop-holds Inv-loop μ-loop
 loop-holds c = (simp length-map at (c .before .before .good .0 .1 .1 .1 .0 .1 .0 .1), search needs, λ _. begun _ _)
 
-write-requires : tie.Need-write-requires Inv-loop μ-loop
-write-requires c κs = search needs
-
-shared-slice-read-bytes : tie.Need-shared-slice-read-bytes Inv-loop μ-loop
-shared-slice-read-bytes c = search needs
-
 array-write-bytes : tie.Need-array-write-bytes Inv-loop μ-loop
 array-write-bytes c = ⊎-elim (λ w. omega (arith, w .3)) (λ w. omega (arith, w .0 .left, w .1)) (c .before .if1 .came)
 
 add-len : tie.Need-add-len Inv-loop μ-loop
 add-len c = ⊎-elim (λ w. omega (arith, w .3)) (λ w. omega (arith, w .0 .left, w .1)) (c .before .before .if1 .came)
-
-add-i : tie.Need-add-i Inv-loop μ-loop
-add-i c = search needs
-
-loop-less : tie.Need-loop-less Inv-loop μ-loop
-loop-less c = search needs
 
 loop-again : tie.Need-loop-again Inv-loop μ-loop
 loop-again c =
@@ -72,11 +60,11 @@ text-spec =
     Inv-loop
     μ-loop
     loop-holds
-    write-requires
-    shared-slice-read-bytes
+    (λ c κs. search needs)
+    (λ c. search needs)
     array-write-bytes
     add-len
-    add-i
-    loop-less
+    (λ c. search needs)
+    (λ c. search needs)
     loop-again
     returns)
