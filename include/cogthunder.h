@@ -253,8 +253,8 @@ uint64_t ct_search_pruned(const uint8_t *test, size_t test_len, const uint8_t *s
  * Case 7, found: the order is written, and byte 1 is its length. Case 8, none left: nothing is written. Case 1: refusal 1 to 11 or
  * 21, then 16.
  *
- * From the empty start until none are left, it gives the witnesses of ct_search in their order. Most tests take microseconds; there
- * are tests of some thirty events that take seconds.
+ * From the empty start until none are left, it gives the witnesses of ct_search in their order. Most tests take microseconds; tests
+ * of thirty events were made that take half a second, and longer ones can't be ruled out.
  */
 uint64_t ct_decide(const uint8_t *test, size_t test_len, const uint8_t *start, size_t start_len, uint8_t *out,
                    size_t out_len);

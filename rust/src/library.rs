@@ -361,8 +361,8 @@ pub fn search_pruned(test: &[u8], start: &[u8], out: &mut [u8], allowance: u64) 
 /// bytes past the order stay. It is refused by 1 to 11 and 21, then by 16 if `out` is too short.
 ///
 /// The witness is the one that [`search`] finds from the empty start, in less time where a test has many prefixes: what can
-/// still follow is told from the events that are placed and the values in memory. Most tests take microseconds; there are tests
-/// of some thirty events that take seconds.
+/// still follow is told from the events that are placed and the values in memory. Most tests take microseconds;
+/// tests of thirty events were made that take half a second, and longer ones can't be ruled out.
 ///
 /// [`Witnesses::decided`](crate::Witnesses::decided) makes such calls one after the other.
 ///
