@@ -1,7 +1,7 @@
 /*
  * Cogthunder: a proved bench for the RISC-V memory models (RVWMO and RVTSO).
  *
- * Link with target/staticlib/libcapi.a, which `rt staticlib capi` makes.
+ * Link with target/staticlib/libcapi.a, which `scripts/archive capi` makes.
  *
  * Every function takes any bytes: what it cannot work on it refuses, and it alters no byte but those of `out`. A
  * refusal alters none at all. A pointer must be valid for the length that follows it, and must not be null, also where

@@ -1,4 +1,4 @@
-//! Links the proved static library, libcapi.a, which `rt staticlib capi` makes.
+//! Links the proved static library, libcapi.a, which `scripts/archive capi` makes.
 
 use std::path::{Path, PathBuf};
 
@@ -14,7 +14,7 @@ fn main() {
     println!("cargo::rerun-if-changed={}", library.display());
     if !library.is_file() {
         println!(
-            "cargo::error=there is no {}: make it by `rt staticlib capi`, or name the folder that has {LIBRARY} in {FOLDER}",
+            "cargo::error=there is no {}: make it by `scripts/archive capi`, or name the folder that has {LIBRARY} in {FOLDER}",
             library.display()
         );
         return;

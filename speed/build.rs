@@ -1,4 +1,4 @@
-//! Says where the proved static libraries are, which `rt staticlib` makes.
+//! Says where the proved static libraries are, which `scripts/archive` makes.
 
 fn main() {
     let package = std::env::var("CARGO_MANIFEST_DIR").expect("cargo names the package's folder");
