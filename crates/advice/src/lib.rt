@@ -1,1 +1,2 @@
 // Which fences to add: definitions and their theory, no code.
+#![tactic(auto)]

@@ -1,4 +1,6 @@
 // Reads a stream of calls for advice, and prints a line for each.
+#![tactic(auto)]
+
 use advising::Advice;
 use console::{Input, Line};
 
@@ -6,7 +8,7 @@ use console::{Input, Line};
 const ADVISE: u8 = b'A';
 
 // What a part of the stream did.
-#[derive(Drop)]
+#[derive(Clone, Copy)]
 enum Effect {
     End,
     Lent(usize),

@@ -1,4 +1,6 @@
 // Which fences to add: the sets of clear fences are tried one after the other, each by a search of its own.
+#![tactic(auto)]
+
 ghost use Rattle.std.specs.Prelude.{◌≤◌, ◌<◌, ◌≡◌, [], ◌∷◌, length};
 ghost use Rattle.lists.specs.Reply.{answered};
 ghost use Rattle.masks.specs.MaskOf.{mask_of};
@@ -19,7 +21,7 @@ use table::{CAPACITY, Event, Kind, Table};
 use witness_walk::Ending;
 
 // The answer; a set of fences is the mask of their numbers.
-#[derive(Drop)]
+#[derive(Clone, Copy)]
 pub enum Advice {
     Refused(Refusal),
     Advised(u32),

@@ -1,4 +1,6 @@
 // An answer as one word of 64 bits, for C.
+#![tactic(auto)]
+
 ghost use Rattle.std.specs.Prelude.{◌^◌, ◌<◌, ◌≡◌};
 ghost use Rattle.refusals.specs.Refusals.{refusal_of};
 ghost use Rattle.rule_sets.specs.RuleMask.{rules_in};
@@ -24,7 +26,7 @@ use verdict::{Axiom, Verdict};
 use witness_walk::Ending;
 
 // The case of an answer: byte 0 of its word.
-#[derive(Drop)]
+#[derive(Clone, Copy)]
 struct Case;
 
 impl Case {

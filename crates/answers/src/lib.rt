@@ -1,4 +1,6 @@
 // The answers on a table that was read: the verdict for a candidate, the returned list of an order.
+#![tactic(auto)]
+
 ghost use Rattle.std.specs.Prelude.{◌≡◌};
 ghost use Rattle.refusals.specs.Lines.{first_line, unless, reply_unless};
 ghost use Rattle.refusals.specs.Refusals.{refusal_of};

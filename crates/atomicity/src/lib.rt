@@ -1,4 +1,6 @@
 // Atomicity: LR l is paired with SC s; it returned from the write f.
+#![tactic(auto)]
+
 ghost use Rattle.std.specs.Prelude.{◌≤◌, ◌<◌, ◌≡◌, length};
 ghost use Rattle.lists.specs.Below.{lowest};
 ghost use Rattle.table.specs.Events.{capacity};

@@ -1,4 +1,6 @@
 // The public entries on bytes. Each takes any bytes, lists and numbers, refuses for itself, and has no `requires`.
+#![tactic(auto)]
+
 ghost use Rattle.std.specs.Prelude.{◌≤◌, ◌≡◌};
 ghost use Rattle.refusals.specs.Refusals.{refusal_of};
 ghost use Rattle.block.specs.Reading.{read_refusal, read_table};
@@ -263,7 +265,7 @@ pub fn outcomes(bytes: &[u8], previous: &[u16], out: &mut [u16], allowance: u64)
 }
 
 // What reading a text gives.
-#[derive(Drop)]
+#[derive(Clone, Copy)]
 pub struct TextTest {
     pub refusal: TextRefusal,
     pub table: Table,
@@ -281,7 +283,7 @@ pub fn read_text(text: &[u8]) -> TextTest
 }
 
 // A reply to a search of a text: 19 or 20 with its place, or a reply as to a block.
-#[derive(Drop)]
+#[derive(Clone, Copy)]
 pub enum TextReply {
     Illegal { number: u8, place: usize },
     Searched(Reply),

@@ -1,4 +1,6 @@
 // Reading a test of either edition: refusals 1 to 11 and 21, and the table.
+#![tactic(auto)]
+
 ghost use Rattle.std.specs.Prelude.{◌≤◌, ◌≡◌, length};
 ghost use Rattle.edition.specs.Limits.{one, two, block_length, test_length};
 ghost use Rattle.refusals.specs.Lines.{by_line, unless};
@@ -10,7 +12,7 @@ use edition::{EditionOne, EditionTwo};
 use refusals::Refusal;
 use table::Table;
 
-#[derive(Drop)]
+#[derive(Clone, Copy)]
 pub struct Reading {
     pub refusal: Refusal,
     pub table: Table,

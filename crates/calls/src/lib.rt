@@ -1,4 +1,6 @@
 // The streams of calls that the test programs read: a tag, then what that call is given. And how its answer is printed.
+#![tactic(auto)]
+
 ghost use Rattle.std.specs.Prelude.{◌≤◌};
 
 use console::{Input, Line};

@@ -1,4 +1,6 @@
 // Lines 12 to 14: tests of a candidate's order and returned list against the table.
+#![tactic(auto)]
+
 ghost use Rattle.std.specs.Prelude.{◌≤◌, ◌<◌, ◌≡◌, cond, ◌&&◌, not, length, eqb};
 ghost use Rattle.lists.specs.Below.{some};
 ghost use Rattle.lists.specs.Lists.{all, count};

@@ -1,4 +1,6 @@
 // Reads a stream of candidates, of pairs whose rules and of orders whose returned lists are asked for, and prints a line for each.
+#![tactic(auto)]
+
 use console::{Input, Line};
 use pair_rules::PairRules;
 use refusals::Refusal;
@@ -16,7 +18,7 @@ const RULES: u8 = b'R';
 const ROOM: u64 = 16;
 
 // What a part of the stream did.
-#[derive(Drop)]
+#[derive(Clone, Copy)]
 enum Effect {
     End,
     Lent(usize),

@@ -1,4 +1,6 @@
 // The bench for C: each entry on bytes, with its answer in one word of 64 bits. Nothing is required of a caller.
+#![tactic(auto)]
+
 ghost use Rattle.std.specs.Prelude.{◌≡◌};
 ghost use Rattle.block.specs.Reading.{read_refusal, read_table};
 ghost use Rattle.writer.specs.Writing.{write_refusal, written_block};
@@ -218,7 +220,7 @@ const NOT_IN_SUITE: u8 = 18;
 
 // Where block k stands in its suite, or the word of its refusal.
 #[repr(C)]
-#[derive(Drop)]
+#[derive(Clone, Copy)]
 pub struct Part {
     pub word: u64,
     pub offset: u64,

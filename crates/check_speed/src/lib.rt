@@ -1,5 +1,7 @@
 // The check of a block in two forms, for the benchmark alone: by additions, as crate `checksum` works it out, and by weights,
 // as it did before. Both make the same promise.
+#![tactic(auto)]
+
 ghost use Rattle.std.specs.Prelude.{◌+◌, ◌*◌, ◌≤◌, ◌<◌, ◌≡◌, length};
 ghost use Rattle.checksum.specs.Checksum.{covered, checksum};
 

@@ -1,5 +1,7 @@
 // The check of a block, which stands behind the bytes that it covers. It is worked out by additions only, in four lanes side by
 // side: the compiler keeps the four in one wide register.
+#![tactic(auto)]
+
 ghost use Rattle.std.specs.Prelude.{◌+◌, ◌*◌, ◌≤◌, ◌≡◌, length, take, drop};
 ghost use Rattle.checksum.specs.Checksum.{covered, weighted_from, checksum};
 ghost use Rattle.checksum.specs.Lanes.{lanes, largest, added, plain};

@@ -4,12 +4,11 @@ use mathlib.Core.Path.{◌≡◌, refl, sym, subst}
 use mathlib.Core.List.{List}
 use native.Mathlib.Numerals.{add-one}
 use native.Mathlib.Omega.{arith}
-use lib.ListN.{length, drop, set}
+use lib.ListN.{length, set}
 use lib.Seq.{take-suc-set}
 use Rattle.text_format.specs.Reading.{Read, word}
 use Rattle.condition_reader.specs.Steps.{FoundSays, past, adding, Fed, Goes, Free, Pushes}
 use Rattle.condition_reader.specs.Words.{max_words}
-use Rattle.condition_reader.specs.declared.Found.{Found}
 use Rattle.condition_reader.specs.declared.Found.TheVariants as found
 use Rattle.condition_reader.specs.declared.Step.{Step}
 use Rattle.condition_reader.specs.declared.Step.TheVariants.{At, Breach}

@@ -1,5 +1,7 @@
 // Reads a condition into words that can be run one after the other, by recursion: the depth that remains falls at each call. A
 // step that is a breach goes through every reader unchanged.
+#![tactic(auto)]
+
 ghost use Rattle.std.specs.Prelude.{◌≤◌, ◌<◌, ◌≡◌, [], ◌∷◌, length};
 ghost use Rattle.text_format.specs.Condition.{max_number, max_value};
 ghost use Rattle.text_format.specs.Reading.{condition};
@@ -27,35 +29,35 @@ pub const AND: u32 = 3;
 pub const OR: u32 = 4;
 
 // A number and the place behind it; or the place of the breach.
-#[derive(Drop)]
+#[derive(Clone, Copy)]
 pub enum Number {
     Got { value: u32, next: usize },
     Breach(usize),
 }
 
 // The place behind fixed bytes; or that of the breach.
-#[derive(Drop)]
+#[derive(Clone, Copy)]
 pub enum Found {
     At(usize),
     Breach(usize),
 }
 
 // Where reading goes on, with so many words in the buffer; or the first breach: its refusal and its place.
-#[derive(Drop)]
+#[derive(Clone, Copy)]
 pub enum Step {
     At { at: usize, len: usize },
     Breach { number: u8, place: usize },
 }
 
 // The connective, and where reading goes on.
-#[derive(Drop)]
+#[derive(Clone, Copy)]
 pub struct Joint {
     pub and: bool,
     pub step: Step,
 }
 
 // What a condition begins with.
-#[derive(Drop)]
+#[derive(Clone, Copy)]
 pub enum Opening {
     Returns,
     Ends,
@@ -65,7 +67,7 @@ pub enum Opening {
 }
 
 // An atom's word and the place behind it; or the place of the breach.
-#[derive(Drop)]
+#[derive(Clone, Copy)]
 pub enum Atom {
     Got { word: u32, next: usize },
     Breach(usize),

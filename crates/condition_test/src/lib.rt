@@ -1,6 +1,8 @@
 // The test of a whole order by the words of a condition (crate `condition_reader`), which are run one after the other with one
 // bit. An atom's value is told only where the word is reached. Orders that a walk meets one after the other begin alike: what
 // their first entries decide of a run is kept.
+#![tactic(auto)]
+
 ghost use Rattle.std.specs.Prelude.{◌/◌, ◌%◌, ◌≤◌, ◌≡◌, cond, not, ◌&&◌, eqb, leb, length, take};
 ghost use Rattle.lists.specs.Lists.{all};
 ghost use Rattle.table.specs.Events.{capacity};
@@ -57,7 +59,7 @@ fn skip_behind(bit: bool, word: u32) -> usize
 }
 
 // A bit, and the number of first entries that decide it: it is the same in each clean order that begins with these.
-#[derive(Drop)]
+#[derive(Clone, Copy)]
 pub struct Turn {
     pub bit: bool,
     pub depth: usize,

@@ -2,7 +2,7 @@
 use super::Line;
 
 // To run, where there is no argument; to say how it is used; or something that no program here knows.
-#[derive(Drop)]
+#[derive(Clone, Copy)]
 pub enum Command {
     Run,
     Help,

@@ -1,4 +1,6 @@
 // Reading standard input and printing, for the programs.
+#![tactic(auto)]
+
 mod arguments;
 mod line;
 mod rows;

@@ -5,7 +5,7 @@ ghost use Rattle.console.specs.Input.{Holds};
 use libc::STDIN_FILENO;
 
 // What is held: so many bytes, as many as were asked for or all that the input had left; or a read failed.
-#[derive(Drop)]
+#[derive(Clone, Copy)]
 pub enum Filled {
     Bytes(usize),
     Failed,
@@ -59,7 +59,7 @@ pub fn read(buffer: &mut [u8], n: usize) -> usize {
 }
 
 // A byte of the input, or its end.
-#[derive(Drop)]
+#[derive(Clone, Copy)]
 pub enum Input {
     Byte(u8),
     End,

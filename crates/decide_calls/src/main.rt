@@ -1,4 +1,6 @@
 // Reads a stream of calls for the next witness, and prints a line for each; one more where a memo changes the answer.
+#![tactic(auto)]
+
 ghost use Rattle.std.specs.Prelude.{◌≤◌, length};
 
 use console::{Input, Line};
@@ -13,7 +15,7 @@ const MEMO: usize = 7;
 const PREFILL: u64 = 0xEEEE_EEEE_EEEE_EEEE;
 
 // What a part of the stream did.
-#[derive(Drop)]
+#[derive(Clone, Copy)]
 enum Effect {
     End,
     Lent(usize),

@@ -1,4 +1,6 @@
 // Deciding a table by its states: whether a state completes, the least run from a state, and the next one after a list.
+#![tactic(auto)]
+
 ghost use Rattle.std.specs.Prelude.{◌+◌, ◌≤◌, ◌<◌, ◌≡◌, ◌&&◌, length, ltb};
 ghost use Rattle.state_test.specs.Board.{Boarded};
 ghost use Rattle.masks.specs.Bit.{bit};
@@ -109,7 +111,7 @@ fn completes(
 }
 
 // The lowest of some events that leads on.
-#[derive(Drop)]
+#[derive(Clone, Copy)]
 enum Lead {
     On(u8),
     Nowhere,
@@ -238,7 +240,7 @@ fn clear(memo: &mut [u64])
 }
 
 // The answer; a witness stands at the front of the answer buffer.
-#[derive(Drop)]
+#[derive(Clone, Copy)]
 pub enum Decision {
     Refused(Refusal),
     Found(usize),

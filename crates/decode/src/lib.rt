@@ -1,4 +1,6 @@
 // The table that an edition 1 block stands for, and the header block of both editions.
+#![tactic(auto)]
+
 ghost use Rattle.std.specs.Prelude.{ℕ, ◌+◌, ◌*◌, ◌≤◌, ◌<◌, ◌≡◌, length};
 ghost use Rattle.lists.specs.Filled.{up_to};
 ghost use Rattle.edition.specs.Limits.{one, block_length, max_locations};
@@ -12,7 +14,7 @@ use table::{CAPACITY, Event, LOCATIONS, LocationNo, Table};
 pub const MARKER: [u8; 4] = [0x52, 0x56, 0x54, 0x31];
 
 // Where the parts of a block stand.
-#[derive(Drop)]
+#[derive(Clone, Copy)]
 pub struct At;
 
 impl At {
@@ -38,7 +40,7 @@ impl At {
 }
 
 // Where the fields of a record stand, counted from its start.
-#[derive(Drop)]
+#[derive(Clone, Copy)]
 pub struct Field;
 
 impl Field {

@@ -1,4 +1,6 @@
 // Syntactic dependencies: rules 9 to 11. y is event b.
+#![tactic(auto)]
+
 ghost use Rattle.std.specs.Prelude.{◌<◌, ◌≡◌, ◌&&◌};
 ghost use Rattle.masks.specs.Bit.{bit};
 ghost use Rattle.table.specs.Events.{capacity, writing_kind};

@@ -1,4 +1,6 @@
 // Lines 9 and 10: tests of a record against the other records of its hart.
+#![tactic(auto)]
+
 ghost use Rattle.std.specs.Prelude.{◌≤◌, ◌<◌, ◌≡◌, ◌&&◌, not, eqb};
 ghost use Rattle.std.specs.Int.Bits.{bit_or};
 ghost use Rattle.lists.specs.Below.{some};
@@ -108,7 +110,7 @@ pub fn line10(t: Table, k: EventNo) -> bool
 }
 
 // Of a hart's events before the one that is looked at.
-#[derive(Drop)]
+#[derive(Clone, Copy)]
 struct Passed {
     // Those that a mask may name.
     sources: u32,

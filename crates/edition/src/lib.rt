@@ -1,8 +1,10 @@
 // The limits belong to the edition and are stated once; the functions hold them to the definitions.
+#![tactic(auto)]
+
 ghost use Rattle.std.specs.Prelude.{◌≡◌};
 ghost use Rattle.edition.specs.Limits.{one, two, max_harts, max_locations, block_length, most_events, test_length};
 
-#[derive(Drop)]
+#[derive(Clone, Copy)]
 pub struct EditionOne;
 
 impl EditionOne {
@@ -43,7 +45,7 @@ impl EditionOne {
 }
 
 // Harts, locations and the length of a block are those of edition 1.
-#[derive(Drop)]
+#[derive(Clone, Copy)]
 pub struct EditionTwo;
 
 impl EditionTwo {

@@ -1,4 +1,6 @@
 // The bytes that a table stands for. Whether it is a good table is for the refusals to say.
+#![tactic(auto)]
+
 ghost use Rattle.std.specs.Prelude.{◌+◌, ◌*◌, ◌≤◌, ◌≡◌, ◌++◌, length};
 ghost use Rattle.std.proofs.lemmas.List.Edits.{sets};
 ghost use Rattle.edition.specs.Limits.{block_length, max_locations};

@@ -1,4 +1,6 @@
 // The engine's steps over masks of events: it knows nothing of what the events are.
+#![tactic(auto)]
+
 ghost use Rattle.std.specs.Prelude.{◌+◌, ◌*◌, ◌/◌, ◌^◌, ◌<◌, ◌≡◌, length};
 ghost use Rattle.masks.specs.Bit.{bit};
 ghost use Rattle.successors.specs.CleanMasks.{slots, limit};
@@ -8,7 +10,7 @@ ghost use Rattle.engine.specs.State.{LoadedAs};
 use masks::has;
 use successors::SLOTS;
 
-#[derive(Drop)]
+#[derive(Clone, Copy)]
 pub enum Loaded {
     // The start stands at the front of the order.
     Ready { len: usize, placed: u32, can: u32 },

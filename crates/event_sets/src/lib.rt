@@ -1,5 +1,7 @@
 // The sets of a table's events, as masks: made in one pass over the events, so that what is asked of pairs of events elsewhere
 // can be asked of whole sets.
+#![tactic(auto)]
+
 ghost use Rattle.std.specs.Prelude.{◌≡◌};
 ghost use Rattle.table.specs.Counts.{Small};
 ghost use Rattle.event_sets.specs.Sets.{sets_of};
@@ -12,7 +14,7 @@ use table::{Kind, LOCATIONS, Table};
 pub const HARTS: usize = EditionOne::HARTS;
 
 // Bit k stands for event k. An entry for each hart and each location: its events.
-#[derive(Drop)]
+#[derive(Clone, Copy)]
 pub struct Sets {
     pub readers: u32,
     pub writers: u32,

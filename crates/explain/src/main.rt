@@ -1,4 +1,6 @@
 // The verdict for one candidate of standard input, in words.
+#![tactic(auto)]
+
 use console::{Command, Filled, Line};
 use edition::{EditionOne, EditionTwo};
 use reads_from::{INITIALLY, NOTHING};

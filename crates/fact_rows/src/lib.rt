@@ -1,4 +1,6 @@
 // The rows of a table's facts (crate `order_facts`), each from sets of events.
+#![tactic(auto)]
+
 ghost use Rattle.std.specs.Prelude.{suc, ◌<◌};
 ghost use Rattle.table.specs.Events.{capacity};
 ghost use Rattle.order_facts.specs.Facts.{own_writer, needed, here, peers};
@@ -55,7 +57,7 @@ pub const UNMET: usize = 2;
 pub const OPERATED: usize = 3;
 
 // An event with its number, the number of events, the readers and the writers, the events at its location and those of its hart.
-#[derive(Drop)]
+#[derive(Clone, Copy)]
 pub struct Around {
     pub count: u8,
     pub number: u8,

@@ -1,4 +1,6 @@
 // The facts of a table (crate `order_facts`), made once a call: the test of a whole order reads them in place of the table.
+#![tactic(auto)]
+
 ghost use Rattle.std.specs.Prelude.{◌≤◌, ◌<◌, ◌≡◌, not, ◌&&◌, eqb, get_or};
 ghost use Rattle.lists.specs.Below.{below};
 ghost use Rattle.lists.specs.Lists.{keep};
@@ -47,7 +49,7 @@ fn writes_stated(stated: u8, x: Event) -> bool
 }
 
 // Made in one pass, as a table by value is copied at each call.
-#[derive(Drop)]
+#[derive(Clone, Copy)]
 struct Seen {
     // For each event its window, and the value that it states.
     window: [u32; CAPACITY],

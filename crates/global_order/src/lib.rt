@@ -1,4 +1,6 @@
 // The global memory order, gmo: a list of event numbers.
+#![tactic(auto)]
+
 ghost use Rattle.std.specs.Prelude.{◌≡◌};
 ghost use Rattle.lists.specs.Lists.{before};
 

@@ -1,1 +1,2 @@
 // Definitions and laws of lists and numbers; no code.
+#![tactic(auto)]

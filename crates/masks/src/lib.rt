@@ -1,4 +1,6 @@
 // Masks of 32 bits: bit 0 is the lowest.
+#![tactic(auto)]
+
 ghost use Rattle.std.specs.Prelude.{◌<◌, ◌^◌, ◌≡◌, cond, eqb};
 ghost use Rattle.std.specs.Int.Bits.{bit_and, bit_xor};
 ghost use Rattle.std.specs.Int.Count.{count_trailing_zeros};

@@ -1,9 +1,11 @@
 // What an AMO with an operation writes, of the value read and the operand.
+#![tactic(auto)]
+
 ghost use Rattle.std.specs.Prelude.{◌≡◌};
 ghost use Rattle.operation.specs.Operation.{added, anded, ored, xored, larger, smaller, applied};
 
 // The operations, by the names of the instructions.
-#[derive(Drop)]
+#[derive(Clone, Copy)]
 pub struct Operation;
 
 impl Operation {

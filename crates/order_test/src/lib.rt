@@ -1,6 +1,8 @@
 // The test of a whole order: the final values are told from its end, and then each entry is asked, by those placed before it,
 // whether it may stand there. The facts of the table are lent as one array of masks: a table by value would be copied at each
 // call.
+#![tactic(auto)]
+
 ghost use Rattle.std.specs.Prelude.{◌<◌, ◌≡◌, not, ◌&&◌, ◌||◌, take};
 ghost use Rattle.std.specs.Int.Bits.{bit_and, bit_or, bit_xor};
 ghost use Rattle.masks.specs.Bit.{bit};

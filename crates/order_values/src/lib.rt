@@ -1,5 +1,7 @@
 // The values that follow from a clean order: what each write leaves, what each reader returns, and the value of each location at
 // the end. They are told by the facts of a table, which are lent as one array.
+#![tactic(auto)]
+
 ghost use Rattle.std.specs.Prelude.{◌%◌, ◌≤◌, ◌<◌, ◌≡◌, take};
 ghost use Rattle.lists.proofs.LastLaws.{Behind};
 ghost use Rattle.masks.specs.Bit.{bit};
@@ -36,7 +38,7 @@ pub fn place(word: u32) -> usize
 }
 
 // A value, and the number of first entries that decide it: it is the same in each clean order that begins with these.
-#[derive(Drop)]
+#[derive(Clone, Copy)]
 pub struct Told {
     pub value: u32,
     pub depth: usize,

@@ -1,4 +1,6 @@
 // Reads a stream of calls for outcomes, and prints a line for each: the answer, and the buffer as it now is.
+#![tactic(auto)]
+
 ghost use Rattle.std.specs.Prelude.{◌≤◌};
 
 use console::{Input, Line};
@@ -16,7 +18,7 @@ const PLACES: usize = 4096;
 const PREFILL: u16 = 0xEEEE;
 
 // What a part of the stream did.
-#[derive(Drop)]
+#[derive(Clone, Copy)]
 enum Effect {
     End,
     Lent(usize),

@@ -1,5 +1,7 @@
 // A call that lists outcomes of a table: what it is refused for, the walk from one lawful order to the next, and the least outcomes
 // above the previous one, handed out.
+#![tactic(auto)]
+
 ghost use Rattle.std.specs.Prelude.{◌+◌, ◌*◌, ◌≤◌, ◌<◌, min, ◌≡◌, not, ◌&&◌, eqb, length, take};
 ghost use Rattle.std.specs.Int.Count.{ones};
 ghost use Rattle.lists.specs.Reply.{answered};
@@ -29,7 +31,7 @@ use table::{CAPACITY, Table};
 use witness_walk::{Ending, Path};
 
 // A reply; the outcomes stand one behind the other at the front of the answer buffer.
-#[derive(Drop)]
+#[derive(Clone, Copy)]
 pub enum OutcomeReply {
     Refused(Refusal),
     Listed { outcomes: u8, values: u8 },
@@ -60,7 +62,7 @@ fn next_lawful(
 }
 
 // What is asked for: the values of these readers, and how many outcomes at most.
-#[derive(Drop)]
+#[derive(Clone, Copy)]
 pub struct Asked {
     pub readers: u32,
     pub room: usize,
@@ -120,7 +122,7 @@ fn behind(len: usize, mem: u32) -> Path
 }
 
 // What a walk over all lawful orders has gathered: so many rows; or there are more prefixes than it may visit.
-#[derive(Drop)]
+#[derive(Clone, Copy)]
 pub enum Gathered {
     All(usize),
     Over,

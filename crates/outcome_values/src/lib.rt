@@ -1,5 +1,7 @@
 // What a clean order gives: the value that each reader returns, in event order, then the final value of each location. They are
 // told in one pass along the order, by the facts of a table, which are lent as one array.
+#![tactic(auto)]
+
 ghost use Rattle.std.specs.Prelude.{◌+◌, ◌%◌, ◌≤◌, ◌<◌, cond, ◌++◌, map, ◌≡◌, length, get_or, take, set};
 ghost use Rattle.edition.specs.Limits.{max_locations};
 ghost use Rattle.lists.specs.Below.{below};

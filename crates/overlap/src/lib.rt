@@ -1,4 +1,6 @@
 // Overlapping-address orderings: rules 1 to 3. x is event a, y is event b.
+#![tactic(auto)]
+
 ghost use Rattle.std.specs.Prelude.{◌≤◌, ◌<◌, ◌≡◌, ◌&&◌, ◌||◌, eqb, length};
 ghost use Rattle.lists.specs.Below.{some};
 ghost use Rattle.table.specs.Events.{capacity, reading_kind, writing_kind, amo, sc};

@@ -1,4 +1,6 @@
 // The answer on a table that was read and a pair of events: the rules by which one is before the other.
+#![tactic(auto)]
+
 ghost use Rattle.std.specs.Prelude.{◌≡◌, length};
 ghost use Rattle.refusals.specs.Lines.{first_line, reply_unless};
 ghost use Rattle.rule_sets.specs.RuleMask.{rules_in};
@@ -9,7 +11,7 @@ use refusals::Refusal;
 use table::{EventNo, Table};
 
 // The rules of a pair: a set, bit r - 1 for rule r.
-#[derive(Drop)]
+#[derive(Clone, Copy)]
 pub enum PairRules {
     Refused(Refusal),
     Held(u16),

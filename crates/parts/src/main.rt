@@ -1,4 +1,6 @@
 // Reads a suite of up to eight blocks and prints what part is handed back as each block, and as some that it lacks.
+#![tactic(auto)]
+
 use console::{Filled, Line};
 use edition::EditionOne;
 

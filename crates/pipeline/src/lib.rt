@@ -1,4 +1,6 @@
 // Pipeline dependencies: rules 12 and 13. x is event a, y is event b, z is event m.
+#![tactic(auto)]
+
 ghost use Rattle.std.specs.Prelude.{◌≤◌, ◌<◌, ◌≡◌, length};
 ghost use Rattle.lists.specs.Below.{some};
 ghost use Rattle.table.specs.Events.{capacity};

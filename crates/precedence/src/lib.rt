@@ -1,5 +1,7 @@
 // The static part of preserved program order (static ppo) of a table, as the engine's masks: a row for each event, made of sets of
 // events and of masks that run along them, so that no pair of events is asked.
+#![tactic(auto)]
+
 ghost use Rattle.std.specs.Prelude.{◌+◌, ◌<◌, ◌≡◌, get_or};
 ghost use Rattle.std.specs.Int.Bits.{bit_and};
 ghost use Rattle.edition.specs.Limits.{max_harts, max_locations};
@@ -16,7 +18,7 @@ use synchronization::{Flag, flagged};
 use table::{Event, EventNo, Kind, Table};
 
 // Masks of events before the one that is looked at. They are of every hart; a row keeps those of its event's hart.
-#[derive(Drop)]
+#[derive(Clone, Copy)]
 struct Passed {
     // The memory events.
     memory: u32,

@@ -1,4 +1,6 @@
 // Reads a stream of frames (a length of two bytes, then that many bytes) and prints what reading each gives.
+#![tactic(auto)]
+
 use console::Input;
 use refusals::Refusal;
 

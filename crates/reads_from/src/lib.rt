@@ -1,4 +1,6 @@
 // The returned list, rf (reads-from): for each event the number of the write that it returned from.
+#![tactic(auto)]
+
 ghost use Rattle.std.specs.Prelude.{◌<◌, ◌≡◌, length};
 ghost use Rattle.model.specs.Rules.{from};
 

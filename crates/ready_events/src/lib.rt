@@ -1,4 +1,6 @@
 // The mask of the events that may come next, kept as an event is placed or taken back, so that not all are asked again.
+#![tactic(auto)]
+
 ghost use Rattle.std.specs.Prelude.{ℕ, ◌^◌, ◌<◌, ◌≡◌, true, ◌&&◌, get_or};
 ghost use Rattle.std.specs.Int.Bits.{bit_and, bit_or, bit_xor};
 ghost use Rattle.masks.specs.Bit.{bit};
@@ -10,7 +12,7 @@ use masks::{lowest_set, one, within};
 use successors::SLOTS;
 
 // Of a prefix: its events, and those that may come next.
-#[derive(Drop)]
+#[derive(Clone, Copy)]
 pub struct Masks {
     pub placed: u32,
     pub can: u32,

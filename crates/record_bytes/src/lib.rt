@@ -1,4 +1,6 @@
 // The bytes that an event's record stands for. Whether it is a good record is for the refusals to say.
+#![tactic(auto)]
+
 ghost use Rattle.std.specs.Prelude.{◌+◌, ◌≤◌, ◌<◌, ◌≡◌, length};
 ghost use Rattle.std.proofs.lemmas.List.Edits.{sets};
 ghost use Rattle.record_bytes.specs.RecordBytes.{two, code_bytes, mask_bytes, operation_bytes, record_bytes};

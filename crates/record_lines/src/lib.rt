@@ -1,5 +1,7 @@
 // Lines 7 and 8: tests of one record's fields, line 7 for blocks and for texts. They take the event and not the table, which is
 // copied at each call.
+#![tactic(auto)]
+
 ghost use Rattle.std.specs.Prelude.{◌≡◌, ◌&&◌, ◌||◌};
 ghost use Rattle.table.specs.Annotations.{acquire_pc, acquire_sc, release_pc, release_sc};
 ghost use Rattle.refusals.specs.TableLines.{field_out_of_range, value_not_zero, fence_not_zero, operation_out_of_range, operand_not_zero};

@@ -1,4 +1,6 @@
 // Prints the table of the refusals in words, which is to be that of docs/refusals.txt.
+#![tactic(auto)]
+
 use console::Line;
 
 // The number of the last refusal.

@@ -1,10 +1,12 @@
 // The table of refusals: its answers, and its test of a range. The lines themselves are the crates named so.
+#![tactic(auto)]
+
 ghost use Rattle.std.specs.Prelude.{◌≡◌};
 ghost use Rattle.refusals.specs.TableLines.{outside};
 
 use table::EventNo;
 
-#[derive(Drop)]
+#[derive(Clone, Copy)]
 pub enum Refusal {
     None,
     Line(u8),

@@ -1,4 +1,6 @@
 // What an order makes each reader return, and the values that writes leave.
+#![tactic(auto)]
+
 ghost use Rattle.std.specs.Prelude.{◌≤◌, ◌<◌, ◌≡◌, ◌&&◌, ◌||◌, not, ◌++◌, length, drop, eqb, ltb};
 ghost use Rattle.lists.specs.Lists.{last_or, before};
 ghost use Rattle.table.specs.Events.{capacity, event, writing_kind};

@@ -1,4 +1,6 @@
 // Writing and reading one after the other: no table and no byte is asked to be within its type, since it has one.
+#![tactic(auto)]
+
 mod fits;
 
 ghost use Rattle.std.specs.Prelude.{◌≡◌};

@@ -1,4 +1,6 @@
 // A set of rules as a mask: bit r - 1 for rule r.
+#![tactic(auto)]
+
 ghost use Rattle.std.specs.Prelude.{◌≡◌};
 ghost use Rattle.rule_sets.specs.RuleMask.{set_mask, lowest_in};
 

@@ -1,5 +1,7 @@
 // The rules of a pair as one set, and preserved program order (ppo). Each rule is a function of the crate that has the manual's
 // heading for its name: overlap, synchronization, dependencies, pipeline.
+#![tactic(auto)]
+
 ghost use Rattle.std.specs.Prelude.{◌≤◌, ◌<◌, ◌≡◌, length};
 ghost use Rattle.table.specs.Events.{capacity};
 ghost use Rattle.model.specs.Rules.{rules, ppo};

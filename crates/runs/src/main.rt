@@ -1,4 +1,6 @@
 // Reads a stream of lists of steps, each with one step more, and prints what the machine answers to that one.
+#![tactic(auto)]
+
 use console::{Input, Line};
 use steps::StepReply;
 
@@ -6,7 +8,7 @@ use steps::StepReply;
 const STEP: u8 = b'M';
 
 // What a part of the stream did.
-#[derive(Drop)]
+#[derive(Clone, Copy)]
 enum Effect {
     End,
     Lent(usize),

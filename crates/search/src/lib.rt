@@ -1,4 +1,6 @@
 // A search of a table: what a call is refused for, the walk to the next witness, and its prefix handed out.
+#![tactic(auto)]
+
 ghost use Rattle.std.specs.Prelude.{◌≤◌, ◌++◌, ◌≡◌, length, take, drop};
 ghost use Rattle.successors.specs.CleanMasks.{slots};
 ghost use Rattle.lists.specs.Reply.{answered};
@@ -24,7 +26,7 @@ use table::{CAPACITY, Table};
 use witness_walk::{Ending, Followed, Path};
 
 // A reply to a search call; the prefix of Found and Spent stands at the front of the answer buffer.
-#[derive(Drop)]
+#[derive(Clone, Copy)]
 pub enum Reply {
     Refused(Refusal),
     Answered(Ending),
@@ -66,7 +68,7 @@ fn deliver(ending: Ending, order: &[u8; SLOTS], out: &mut [u8]) -> Reply
 }
 
 // A start that was read into the order and followed along the list.
-#[derive(Drop)]
+#[derive(Clone, Copy)]
 enum Start {
     At(Path),
     Unlisted,

@@ -1,4 +1,6 @@
 // How a search call ended, in words, and the start of the walk's next one: what the programs that walk share.
+#![tactic(auto)]
+
 use console::Line;
 use witness_walk::Ending;
 

@@ -1,4 +1,6 @@
 // Rows of numbers in ascending order, each once, in one lent array.
+#![tactic(auto)]
+
 ghost use Rattle.std.specs.Prelude.{◌+◌, ◌-◌, ◌*◌, ◌≤◌, not, ◌&&◌, ◌++◌, ◌≡◌, ltb, length, take, drop};
 ghost use Rattle.lists.specs.Ascending.{less};
 ghost use Rattle.sorted_rows.specs.Sorted.{rows};

@@ -1,5 +1,7 @@
 // The states of the decision by masks: the first state and the next one, what may be placed, whether a stated value is lost, and
 // which events need be tried.
+#![tactic(auto)]
+
 ghost use Rattle.std.specs.Prelude.{◌<◌, ◌≡◌, ◌&&◌, ◌||◌, get_or};
 ghost use Rattle.std.specs.Int.Bits.{bit_and};
 ghost use Rattle.lists.specs.Below.{some};

@@ -1,4 +1,6 @@
 // Load value, the values read, the final values: the lowest place where each is broken.
+#![tactic(auto)]
+
 ghost use Rattle.std.specs.Prelude.{◌≤◌, ◌<◌, ◌≡◌, length};
 ghost use Rattle.lists.specs.Below.{lowest};
 ghost use Rattle.edition.specs.Limits.{max_locations};

@@ -1,4 +1,6 @@
 // One step of the machine for RVTSO, behind a list of steps.
+#![tactic(auto)]
+
 ghost use Rattle.std.specs.Prelude.{◌<◌, ◌≡◌, not, ◌&&◌, length, eqb};
 ghost use Rattle.lists.specs.Below.{lowest, some};
 ghost use Rattle.masks.specs.Bit.{bit};
@@ -17,7 +19,7 @@ use successors::SLOTS;
 use table::{EventNo, Kind, Model, Table};
 
 // A table of model 1, and what its steps are told by: sets of its events, and for each event the mask of its steady predecessors.
-#[derive(Drop)]
+#[derive(Clone, Copy)]
 struct Machine {
     table: Table,
     sets: Sets,
@@ -26,7 +28,7 @@ struct Machine {
 
 // What the steps so far have done, beside the order and the returned list: masks of the events that aren't issued and of those
 // in a buffer; how many the order has.
-#[derive(Drop)]
+#[derive(Clone, Copy)]
 struct Done {
     left: u32,
     held: u32,
@@ -34,20 +36,20 @@ struct Done {
 }
 
 // A step, and the steps of a list.
-#[derive(Drop)]
+#[derive(Clone, Copy)]
 enum Step {
     Taken { event: u8, done: Done },
     Refused,
 }
 
-#[derive(Drop)]
+#[derive(Clone, Copy)]
 enum Ran {
     Reaches(Done),
     Breaks,
 }
 
 // A reply to a step: its event, and what a returned list holds for it.
-#[derive(Drop)]
+#[derive(Clone, Copy)]
 pub enum StepReply {
     Refused(Refusal),
     Taken { event: u8, entry: u8 },

@@ -1,4 +1,6 @@
 // For each event the mask of those that wait for it: placing the event can make only these ready.
+#![tactic(auto)]
+
 ghost use Rattle.std.specs.Prelude.{◌^◌, ◌<◌, ◌≡◌, length};
 ghost use Rattle.successors.specs.CleanMasks.{slots, limit};
 ghost use Rattle.successors.specs.Waiting.{Added, Prepared};

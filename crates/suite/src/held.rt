@@ -8,7 +8,7 @@ use console::Filled;
 use edition::{EditionOne, EditionTwo};
 
 // How many blocks the walk has moved by, and how many bytes are held then.
-#[derive(Drop)]
+#[derive(Clone, Copy)]
 pub struct Step {
     pub blocks: usize,
     pub held: usize,

@@ -1,4 +1,6 @@
 // The suite program: for each test of standard input, one line as soon as its search is done; and how many tests there were.
+#![tactic(auto)]
+
 mod held;
 
 ghost use Rattle.std.specs.Prelude.{◌≤◌, ◌≡◌, length};
@@ -79,7 +81,7 @@ fn line(k: u64, held: &[u8]) -> bool {
 }
 
 // What a turn did. Of a failure standard error was told.
-#[derive(Drop)]
+#[derive(Clone, Copy)]
 pub enum Effect {
     Passed(Step),
     NoMore,

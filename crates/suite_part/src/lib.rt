@@ -1,4 +1,6 @@
 // The blocks of a suite, as parts of the caller's bytes.
+#![tactic(auto)]
+
 ghost use Rattle.std.specs.Prelude.{◌≡◌};
 ghost use Rattle.suite_part.specs.Part.{block_of, block_count};
 

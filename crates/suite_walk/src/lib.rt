@@ -1,4 +1,6 @@
 // The tests of a suite, of both editions: where each begins, and where the next one does.
+#![tactic(auto)]
+
 ghost use Rattle.std.specs.Prelude.{◌≤◌, ◌≡◌, true, false, length};
 ghost use Rattle.edition.specs.Limits.{block_length};
 ghost use Rattle.refusals.specs.Lines.{unless};

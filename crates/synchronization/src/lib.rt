@@ -1,4 +1,6 @@
 // Explicit synchronization: rules 4 to 8. x is event a, y is event b.
+#![tactic(auto)]
+
 ghost use Rattle.std.specs.Prelude.{◌≤◌, ◌<◌, ◌≡◌, cond, ◌&&◌, ◌||◌, eqb};
 ghost use Rattle.masks.specs.Bit.{bit};
 ghost use Rattle.table.specs.Events.{capacity, reading_kind, writing_kind, fence, fencetso};
@@ -8,7 +10,7 @@ ghost use Rattle.model.specs.Rules.{rule4, rule8};
 use table::{Event, EventNo, Kind, Model, Table};
 
 // Bits of `flags`: the annotations of a memory event, the sets of a fence.
-#[derive(Drop)]
+#[derive(Clone, Copy)]
 pub struct Flag;
 
 impl Flag {
@@ -76,7 +78,7 @@ pub fn rule4(t: Table, a: EventNo, b: EventNo) -> bool
 }
 
 // What RVTSO adds to what an event carries.
-#[derive(Drop)]
+#[derive(Clone, Copy)]
 struct Tso;
 
 impl Tso {

@@ -1,4 +1,6 @@
 // A litmus test by value, laid out as in C. Fields are wide enough to hold what reading refuses.
+#![tactic(auto)]
+
 ghost use Rattle.std.specs.Prelude.{◌≤◌, ◌<◌, ◌≡◌, ◌&&◌, eqb, ltb};
 ghost use Rattle.lists.specs.Below.{some};
 ghost use Rattle.table.specs.Events.{capacity, reading_kind, writing_kind, memory_kind, fencing_kind, memory_mask, reserves, paired, no_event};
@@ -13,16 +15,16 @@ pub const CAPACITY: usize = 32;
 pub const LOCATIONS: usize = EditionOne::LOCATIONS;
 
 // A number of an event of the table.
-#[derive(Drop)]
+#[derive(Clone, Copy)]
 pub struct EventNo(pub u8);
 
 // A number of a location. The two can't be mixed.
 #[repr(C)]
-#[derive(Drop)]
+#[derive(Clone, Copy)]
 pub struct LocationNo(pub u8);
 
 // The kinds of events.
-#[derive(Drop)]
+#[derive(Clone, Copy)]
 pub struct Kind;
 
 impl Kind {
@@ -42,7 +44,7 @@ impl Kind {
 }
 
 // The memory models.
-#[derive(Drop)]
+#[derive(Clone, Copy)]
 pub struct Model;
 
 impl Model {
@@ -52,7 +54,7 @@ impl Model {
 }
 
 #[repr(C)]
-#[derive(Drop)]
+#[derive(Clone, Copy)]
 pub struct Event {
     pub kind: u8,
     pub hart: u8,
@@ -69,7 +71,7 @@ pub struct Event {
 
 // `count` is the number of events; slots past it are blank in a good table.
 #[repr(C)]
-#[derive(Drop)]
+#[derive(Clone, Copy)]
 pub struct Table {
     pub harts: u8,
     pub locations: u8,

@@ -1,4 +1,6 @@
 // A table as one line of numbers, for the programs that print what was read.
+#![tactic(auto)]
+
 use console::Line;
 use table::{Event, LOCATIONS, Table};
 

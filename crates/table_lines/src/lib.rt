@@ -1,4 +1,6 @@
 // Lines 5 to 11 and 21 of the table of refusals, each a test of the table, and the first that holds, of a block and of a text.
+#![tactic(auto)]
+
 ghost use Rattle.std.specs.Prelude.{◌≤◌, ◌≡◌, false, [], ◌∷◌, ◌++◌};
 ghost use Rattle.lists.specs.Below.{lowest, below};
 ghost use Rattle.lists.specs.Lists.{keep};
@@ -19,7 +21,7 @@ use refusals::Refusal;
 use table::{Event, EventNo, Kind, Table};
 
 // Masks of the records: those that line 7 refuses, and line 8; the memory events.
-#[derive(Drop)]
+#[derive(Clone, Copy)]
 struct Marks {
     fields: u32,
     annotations: u32,

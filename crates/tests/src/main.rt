@@ -1,5 +1,7 @@
 // Reads a stream of suites and of calls on them, and prints a line for each call: the tests of a suite's first bytes, or the one at
 // a block of the whole suite.
+#![tactic(auto)]
+
 use console::{Input, Line};
 use edition::EditionOne;
 
@@ -14,7 +16,7 @@ const MOST_BLOCKS: usize = 8;
 const MOST_BYTES: usize = MOST_BLOCKS * EditionOne::BLOCK;
 
 // What a part of the stream did.
-#[derive(Drop)]
+#[derive(Clone, Copy)]
 enum Effect {
     End,
     Lent(usize),

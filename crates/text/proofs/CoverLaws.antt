@@ -17,6 +17,7 @@ use Rattle.text.specs.Texts.{column, covering}
 
 -- it covers each of them, and is the least that does
 pub covers : (l : List ℕ) (x : ℕ) → x ∈ l → x < covering l
+covers [] x m = elim m [ ]
 covers (v ∷ l) x (Memᴰ.head e) = omega (arith, e)
 covers (v ∷ l) x (Memᴰ.tail m) = omega (arith, covers l x m)
 

@@ -1,4 +1,6 @@
 // Reading a test as text: the first refusal, the table, and the words of its condition.
+#![tactic(auto)]
+
 ghost use Rattle.std.specs.Prelude.{◌≤◌, max, ◌≡◌, map, length, take};
 ghost use Rattle.lists.specs.Lists.{any};
 ghost use Rattle.table.specs.Events.{capacity};
@@ -27,14 +29,14 @@ const LEVELS: u8 = 8;
 const BYTES: u32 = 256;
 
 // 19 and 20 with their place; any other refusal, or none.
-#[derive(Drop)]
+#[derive(Clone, Copy)]
 pub enum TextRefusal {
     At { number: u8, place: usize },
     Table(Refusal),
 }
 
 // The condition is the first `len` words of the buffer.
-#[derive(Drop)]
+#[derive(Clone, Copy)]
 pub struct TextReading {
     pub refusal: TextRefusal,
     pub table: Table,
@@ -42,7 +44,7 @@ pub struct TextReading {
 }
 
 // The least numbers of harts and of locations that cover some events.
-#[derive(Drop)]
+#[derive(Clone, Copy)]
 struct Covered {
     harts: usize,
     locations: usize,

@@ -1,5 +1,7 @@
 // Reads the event lines and the initial values of a text. The first breach decides, so all of them are read, also where there are
 // more than a table holds: those past its room are counted and not kept.
+#![tactic(auto)]
+
 ghost use Rattle.std.specs.Prelude.{◌≤◌, ◌<◌, ◌≡◌, true, [], ◌∷◌, length, get_or, drop, eqb};
 ghost use Rattle.text_format.specs.Document.{field_bounds, within};
 ghost use Rattle.condition_reader.specs.Steps.{FoundSays};
@@ -12,7 +14,7 @@ use table::{CAPACITY, Event, LOCATIONS, LocationNo};
 // The fields of a line, and where each stands in it: in record order.
 const FIELDS: usize = 11;
 
-#[derive(Drop)]
+#[derive(Clone, Copy)]
 struct Field;
 
 impl Field {
@@ -53,28 +55,28 @@ const BOUNDS: [u32; FIELDS] = [
 ];
 
 // An event and the place behind its line; or the place of the breach.
-#[derive(Drop)]
+#[derive(Clone, Copy)]
 pub enum EventLine {
     Got { event: Event, next: usize },
     Breach(usize),
 }
 
 // The place behind the rows, and their number; or the place of the breach.
-#[derive(Drop)]
+#[derive(Clone, Copy)]
 pub enum Rows {
     At { at: usize, count: usize },
     Breach(usize),
 }
 
 // The events of the first lines; the slots past them are blank.
-#[derive(Drop)]
+#[derive(Clone, Copy)]
 pub struct EventLines {
     pub rows: Rows,
     pub events: [Event; CAPACITY],
 }
 
 // The first initial values; those not given are 0.
-#[derive(Drop)]
+#[derive(Clone, Copy)]
 pub struct InitialValues {
     pub rows: Rows,
     pub initial: [u16; LOCATIONS],

@@ -1,4 +1,6 @@
 // Reads a stream of calls on texts, readings and searches, single ones and those of walks, and prints a line for each.
+#![tactic(auto)]
+
 use bench::TextReply;
 use console::{Input, Line};
 use refusals::Refusal;
@@ -16,7 +18,7 @@ const WALK: u8 = b'W';
 const TEXT: usize = 2049;
 
 // What a part of the stream did; a call says how long the walk's start is after it.
-#[derive(Drop)]
+#[derive(Clone, Copy)]
 enum Effect {
     End,
     Lent(usize),

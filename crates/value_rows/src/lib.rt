@@ -1,4 +1,6 @@
 // The rows of a table's facts that the values of a text are told by, each made as a whole.
+#![tactic(auto)]
+
 ghost use Rattle.std.specs.Prelude.{◌+◌, ◌*◌, ◌^◌, ◌<◌, ◌≡◌, not, ◌&&◌, eqb, length, set};
 ghost use Rattle.lists.specs.Filled.{padded};
 ghost use Rattle.operation.specs.Operation.{no_operation};

@@ -1,4 +1,6 @@
 // The verdict for a candidate: a returned list, rf, and a global memory order, gmo.
+#![tactic(auto)]
+
 mod pairs;
 
 ghost use Rattle.std.specs.Prelude.{◌≤◌, ◌≡◌, length};
@@ -12,7 +14,7 @@ use refusals::Refusal;
 use table::{EventNo, LocationNo, Table};
 
 // What is broken, with its place; a preserved-order pair with the set of its rules, bit r - 1 for rule r.
-#[derive(Drop)]
+#[derive(Clone, Copy)]
 pub enum Axiom {
     PreservedOrder(EventNo, EventNo, u16),
     LoadValue(EventNo),
@@ -21,7 +23,7 @@ pub enum Axiom {
     FinalValue(LocationNo),
 }
 
-#[derive(Drop)]
+#[derive(Clone, Copy)]
 pub enum Verdict {
     Refused(Refusal),
     Broken(Axiom),

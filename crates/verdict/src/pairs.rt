@@ -8,7 +8,7 @@ use global_order::before;
 use table::{EventNo, Table, may_order};
 
 // Event numbers a and b; a is the number of events where there is no pair.
-#[derive(Drop)]
+#[derive(Clone, Copy)]
 pub struct Pair {
     pub a: EventNo,
     pub b: EventNo,

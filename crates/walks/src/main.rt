@@ -1,4 +1,6 @@
 // Reads a stream of search calls of both engines, single ones and those of walks, and prints a line for each.
+#![tactic(auto)]
+
 use console::Input;
 use search::Reply;
 
@@ -12,7 +14,7 @@ const PRUNED_SEARCH: u8 = b's';
 const PRUNED_WALK: u8 = b'w';
 
 // What a part of the stream did; a call says how long the walk's start is after it.
-#[derive(Drop)]
+#[derive(Clone, Copy)]
 enum Effect {
     End,
     Lent(usize),

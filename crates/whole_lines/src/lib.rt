@@ -1,5 +1,7 @@
 // Lines 5 and 6: tests of the whole table. What looks at the header alone takes its fields: a table by value is copied at each
 // call.
+#![tactic(auto)]
+
 ghost use Rattle.std.specs.Prelude.{◌≡◌};
 ghost use Rattle.lists.specs.Below.{some};
 ghost use Rattle.edition.specs.Limits.{max_locations};

@@ -1,4 +1,6 @@
 // The table that an edition 2 test stands for: the header block's fields and thirty wide records in the two blocks behind it.
+#![tactic(auto)]
+
 ghost use Rattle.std.specs.Prelude.{◌+◌, ◌*◌, ◌≤◌, ◌<◌, ◌≡◌, length};
 ghost use Rattle.lists.specs.Filled.{up_to};
 ghost use Rattle.edition.specs.Limits.{two, most_events, test_length};
@@ -10,7 +12,7 @@ use edition::{EditionOne, EditionTwo};
 use table::{CAPACITY, Event, LocationNo, Table};
 
 // Where the fields of a wide record stand, counted from its start.
-#[derive(Drop)]
+#[derive(Clone, Copy)]
 struct Field;
 
 impl Field {

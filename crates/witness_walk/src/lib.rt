@@ -1,4 +1,6 @@
 // The walk through the prefixes of a table, ascending, with a counted budget; it stops at the first witness of what is looked for.
+#![tactic(auto)]
+
 ghost use Rattle.std.specs.Prelude.{◌+◌, ◌<◌, ◌≡◌, cond, ◌⊎◌, length, get_or, set, eqb};
 ghost use Rattle.std.specs.Int.Count.{ones};
 ghost use Rattle.masks.specs.Bit.{bit};
@@ -16,7 +18,7 @@ use successors::SLOTS;
 use table::CAPACITY;
 
 // The prefix of Found and Spent stands at the front of the order.
-#[derive(Drop)]
+#[derive(Clone, Copy)]
 pub enum Ending {
     Found { len: usize, visited: u64 },
     NoneLeft { visited: u64 },
@@ -24,7 +26,7 @@ pub enum Ending {
 }
 
 // A prefix at the front of the order: the number of its entries, its masks, and the events that are still to be tried behind it.
-#[derive(Drop)]
+#[derive(Clone, Copy)]
 pub struct Path {
     pub keep: usize,
     pub masks: Masks,
@@ -80,7 +82,7 @@ fn note_good(
 }
 
 // A start, followed as the walk would.
-#[derive(Drop)]
+#[derive(Clone, Copy)]
 pub enum Followed {
     // The walk gets to it; the events that are to be tried behind it.
     Reached(u32),

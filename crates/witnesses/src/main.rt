@@ -1,4 +1,6 @@
 // Walks all witnesses of one test of standard input: a line each, and their number at the end.
+#![tactic(auto)]
+
 use console::{Command, Filled, Line};
 use edition::EditionTwo;
 use search::Reply;
@@ -15,7 +17,7 @@ const LIST: usize = EditionTwo::EVENTS;
 
 // Where a walk is: the prefix that its next call starts from, and how many witnesses and prefixes there were. It has ended
 // when a call said that none are left, or refused, or when a line was lost.
-#[derive(Drop)]
+#[derive(Clone, Copy)]
 struct Walk {
     prefix: [u8; LIST],
     len: usize,

@@ -1,4 +1,6 @@
 // The refusals in words, once for all programs.
+#![tactic(auto)]
+
 ghost use Rattle.std.specs.Prelude.{◌≡◌};
 ghost use Rattle.refusals.specs.Refusals.{refusal_of};
 ghost use Rattle.words.specs.Numbers.{number_of};

@@ -1,4 +1,6 @@
 // Writing a block: refusals 1, 5 to 11 and 21, and the bytes.
+#![tactic(auto)]
+
 ghost use Rattle.std.specs.Prelude.{◌≡◌, length};
 ghost use Rattle.edition.specs.Limits.{block_length};
 ghost use Rattle.refusals.specs.Refusals.{refusal_of};

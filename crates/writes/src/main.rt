@@ -1,5 +1,7 @@
 // Reads a stream of tables (the fields in their order, then the length of a buffer, two bytes) and prints what writing each to
 // such a buffer gives.
+#![tactic(auto)]
+
 use console::Input;
 use refusals::Refusal;
 use table::{CAPACITY, Event, LOCATIONS, LocationNo, Table};

@@ -1,4 +1,6 @@
 // Line 6, of the bytes named zero that are no field of the table.
+#![tactic(auto)]
+
 ghost use Rattle.std.specs.Prelude.{◌+◌, ◌≤◌, ◌≡◌, length};
 ghost use Rattle.edition.specs.Limits.{one, two, block_length, test_length};
 ghost use Rattle.zero_bytes.specs.ZeroBytes.{some_not_zero, record_zeros, later_zeros, bytes_not_zero};

@@ -1,0 +1,34 @@
+use Prim.Native.Nat.{◌-◌}
+use native.Mathlib.Omega.{arith}
+use mathlib.Core.Path.{◌≡◌}
+use lib.ListN.{length}
+use lib.Count.{ones}
+use Rattle.advising.specs.Chosen.{events_in}
+use Rattle.advising.proofs.EventLaws.{events-count}
+use Rattle.advising.proofs.TryLaws.{sizes-start, sizes-stop, sizes-on, sizes-end}
+use Rattle.advising.proofs.try_all.Goals as goal
+use Rattle.advising.proofs.try_all.Goals.{Start}
+
+-- as many sizes as fences, and the empty set's
+count : (c : Start) → ones c.args.fences ≡ length (events_in c.args.fences)
+count c = events-count _ c.ranges.fences.fits
+
+pub loop-size-init : goal.loop-size-init
+loop-size-init c = sizes-start _ _
+
+pub returns-then-decides : goal.returns-then-decides
+returns-then-decides c = sizes-stop _ _ _ c.loop-size.invariant (omega (arith, count (goal.at.returns-then-decides c).Start))
+    c.try_size-said.ensures c.decides.ensures c.if-decides.true
+
+pub overflow_add-size : goal.overflow_add-size
+overflow_add-size c = omega (arith, count (goal.at.overflow_add-size c).Start, c.requires.1)
+
+pub loop-size-smaller : goal.loop-size-smaller
+loop-size-smaller c = omega arith
+
+pub loop-size-preserved : goal.loop-size-preserved
+loop-size-preserved c = sizes-on _ _ _ c.loop-size.invariant (omega (arith, count (goal.at.loop-size-preserved c).Start))
+    c.try_size-said.ensures c.decides.ensures c.if-decides.false
+
+pub returns : goal.returns
+returns c = sizes-end _ _ _ c.loop-size.invariant (omega (arith, count (goal.at.returns c).Start))

@@ -1,0 +1,6 @@
+use Rattle.answer_word.proofs.SetLaws.{set-mask}
+use native.Mathlib.Omega.{arith}
+use Rattle.answer_word.proofs.upper_half.Goals as goal
+
+pub returns : goal.returns
+returns c = record { value = set-mask _ (omega arith); upper_bound = omega arith }

@@ -1,0 +1,18 @@
+use mathlib.Core.Path.{ap, sym, ◌∙◌}
+use mathlib.Core.Bool.{not}
+use borrow.Author.Tests.{eq-eqb, ne_eqb}
+use Rattle.answers.proofs.CandidateLaws.{determine-12, refused-13, left-13, determine-16, determine-none, order-length-wrong}
+use borrow.Author.Rules.{rules}
+use Rattle.answers.proofs.determine.Goals as goal
+
+pub returns-then-order-total : goal.returns-then-order-total
+returns-then-order-total c = determine-12 _ _ _ (sym (order-length-wrong _ _ _ c.total.ensures) ∙ ap not (ne_eqb _ _ c.if-order-total.true))
+
+pub returns-then-order_wrong : goal.returns-then-order_wrong
+returns-then-order_wrong c = record { result_value = search (refused-13, rules); out_after = search (left-13, rules) }
+
+pub returns-then-out-t : goal.returns-then-out-t
+returns-then-out-t c = determine-16 _ _ _ (sym (order-length-wrong _ _ _ c.total.ensures) ∙ ap not (eq-eqb _ _ c.if-order-total.false)) (sym c.order_wrong.ensures ∙ c.if-order_wrong.false) c.if-out-t.true
+
+pub returns : goal.returns
+returns c = determine-none _ _ _ (sym (order-length-wrong _ _ _ c.total.ensures) ∙ ap not (eq-eqb _ _ c.if-order-total.false)) (sym c.order_wrong.ensures ∙ c.if-order_wrong.false) c.if-out-t.false _ c.determine.ensures

@@ -1,0 +1,5 @@
+use Rattle.condition_test.proofs.RunLaws.{starts_first}
+use Rattle.condition_test.proofs.first.Goals as goal
+
+pub returns : goal.returns
+returns c = starts_first _ _ _ c.is_plain.ensures c.digit.ensures

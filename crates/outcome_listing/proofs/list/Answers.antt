@@ -1,0 +1,41 @@
+use native.Mathlib.Omega.{arith}
+use mathlib.Core.Path.{◌≡◌, sym, ap, ◌∙◌}
+use mathlib.Core.List.{[]}
+use Rattle.event_sets.specs.declared.Sets.{Sets}
+use Rattle.outcomes.specs.Outcomes.{outcome_length}
+use Rattle.outcome_listing.specs.Replies.{previous_wrong}
+use Rattle.outcome_listing.proofs.DeliverLaws.{width_is, width_small, previous-is, previous-refused, room-refused, allowance-refused, listing-replied, room_fits, listing-is}
+use Rattle.outcome_listing.proofs.list.Goals as goal
+use Rattle.outcome_listing.proofs.list.Goals.{After-is_no_outcome}
+
+-- What is known once the previous outcome's length is looked at.
+module _ (d : After-is_no_outcome) where
+  abbrev given : tie.Start
+  given = ?Start
+
+  width : d.values_of-values.result ≡ outcome_length given.args.t
+  width =
+      width_is given.args.t _ _ (ap (λ (s : Sets). s.readers) d.of_table-s.ensures) d.values_of-values.ensures
+
+  wrong : d.is_no_outcome.result ≡ previous_wrong given.args.t given.args.previous.now
+  wrong = previous-is given.args.t 0 _ [] 0 _ width d.is_no_outcome.result d.is_no_outcome.ensures
+
+pub returns-then-is_no_outcome : goal.returns-then-is_no_outcome
+returns-then-is_no_outcome c = previous-refused _ _ _ _ _ (sym (wrong (goal.at.returns-then-is_no_outcome c).After-is_no_outcome) ∙ c.if-is_no_outcome.true)
+
+pub returns-then-out-width : goal.returns-then-out-width
+returns-then-out-width c = room-refused _ _ _ _ _ (sym (wrong (goal.at.returns-then-out-width c).After-is_no_outcome) ∙ c.if-is_no_outcome.false) (omega (arith, c.if-out-width.true, width (goal.at.returns-then-out-width c).After-is_no_outcome))
+
+pub returns-then-allowance-gt-ALLOWANCE : goal.returns-then-allowance-gt-ALLOWANCE
+returns-then-allowance-gt-ALLOWANCE c = allowance-refused _ _ _ _ _ (sym (wrong (goal.at.returns-then-allowance-gt-ALLOWANCE c).After-is_no_outcome) ∙ c.if-is_no_outcome.false) (omega (arith, c.if-out-width.false, width (goal.at.returns-then-allowance-gt-ALLOWANCE c).After-is_no_outcome)) c.if-allowance-gt-ALLOWANCE.true
+
+pub deliver-requires : goal.deliver-requires
+deliver-requires c = let g = c.gather_of-gathered.ensures.within in
+    room_fits _ _ _ _ _ _ c.gather_of-gathered.result c.fewer.ensures (omega (arith, width (goal.at.deliver-requires c).After-is_no_outcome, width_small _ (given (goal.at.deliver-requires c).After-is_no_outcome).requires.0.small)) (given (goal.at.deliver-requires c).After-is_no_outcome).requires.2
+    (omega (arith, g.1)) g.0
+
+pub returns : goal.returns
+returns c = let g = c.gather_of-gathered in
+    listing-replied _ _ _ _ _ (sym (wrong (goal.at.returns c).After-is_no_outcome) ∙ c.if-is_no_outcome.false) (omega (arith, c.if-out-width.false, width (goal.at.returns c).After-is_no_outcome)) c.if-allowance-gt-ALLOWANCE.false _
+    (listing-is (given (goal.at.returns c).After-is_no_outcome).args.t _ _ _ _ _ _ g.result _ (width (goal.at.returns c).After-is_no_outcome) c.fewer.ensures g.ensures.gathers) c.deliver.result _
+    c.deliver.ensures

@@ -1,0 +1,6 @@
+use mathlib.Core.Path.{ap₂}
+use mathlib.Core.Bool.{◌||◌}
+use Rattle.record_lines.proofs.releases.Goals as goal
+
+pub returns : goal.returns
+returns c = ap₂ ◌||◌ c.has.ensures c.has-2.ensures

@@ -1,0 +1,16 @@
+use Prim.Native.Nat.{◌-◌}
+use mathlib.Core.Path.{sym, ◌∙◌}
+use native.Mathlib.Omega.{arith}
+use Rattle.lists.proofs.LastLaws.{last-hit, last-skip, last_end}
+use Rattle.returns.proofs.last_writer.Goals as goal
+use Rattle.returns.proofs.last_writer.Goals.{then-writes_to, else-writes_to}
+
+pub loop-i-preserved : goal.loop-i-preserved
+loop-i-preserved c = let v = c.loop-i in (
+  omega arith,
+  v.invariant.1 ∙ elim c.if-writes_to.branch [ then-writes_to w ↦ rw w.latest-is (last-hit _ v.latest _ v.i (omega arith) c.writes_to.ensures w.if-writes_to.true) | else-writes_to w ↦ rw w.latest-is (last-skip _ v.latest _ v.i (omega arith) c.writes_to.ensures w.if-writes_to.false) ],
+)
+
+pub returns : goal.returns
+returns c = let v = c.loop-i in
+    sym (v.invariant.1 ∙ last_end _ v.latest _ v.i (omega arith))

@@ -1,0 +1,12 @@
+use Prim.Native.Nat.{◌-◌}
+use lib.ListN.{length}
+use Rattle.model.specs.Rules.{initially}
+use Rattle.model.specs.Returns.{visible}
+use Rattle.lists.proofs.LastLaws.{LastSoFar}
+use Rattle.returns.proofs.return_of.Given as goal
+
+abbrev pub invariant-loop-i : goal.invariant-loop-i
+invariant-loop-i l = LastSoFar (visible l.t l.gmo l.r.0) initially l.gmo l.latest l.i
+
+abbrev pub decreases-loop-i : goal.decreases-loop-i
+decreases-loop-i l = length l.gmo - l.i

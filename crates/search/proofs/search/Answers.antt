@@ -1,0 +1,9 @@
+use mathlib.Core.Path.{refl}
+use mathlib.Core.List.{[]}
+use Rattle.model.specs.Witness.{stated_outcome}
+use Rattle.search.proofs.CallLaws.{replied-always}
+use Rattle.search.proofs.search.Goals as goal
+
+pub returns : goal.returns
+returns c = let r = replied-always {words = []} (stated_outcome _) _ _ _ refl c.search_by.ensures in
+    (r.reply, (r.buffer, r.length))

@@ -1,0 +1,8 @@
+use mathlib.Core.Path.{ap}
+use Rattle.event_sets.specs.declared.Sets.{Sets}
+use Rattle.search.proofs.PrunedLaws.{replied-pruned}
+use Rattle.search.proofs.search_pruned.Goals as goal
+
+pub returns : goal.returns
+returns c = let r = replied-pruned c.requires (ap (λ (x : Sets). x.readers) c.of_table-s.ensures) _ _ _ c.search_by.ensures in
+    (r.reply, (r.buffer, r.length))
