@@ -14,15 +14,13 @@ pub returns-in-None : goal.returns-in-None
 returns-in-None c = let read = c.read-reading.ensures in
     let ok = sym read.0 ∙ ap refusal_of c.in-None.is in
     let d = c.decide_with in
-    let h = decide-answered _ _ _ _ d.result _ ok (read.1 ∙ table-read _ ok) d.ensures.decides in
-    (h.0, (h.1.0, (h.1.1, d.ensures.memo_after)))
+    let w = decide-answered c.args.bytes.now c.args.start.now c.args.out.now _ d.result _ ok (read.1 ∙ table-read _ ok) d.ensures.decides in
+    record { out_after = w.0; out_after_2 = w.1.0; result_value = w.1.1; memo_after = d.ensures.memo_after }
 
 pub returns-in-Line : goal.returns-in-Line
-returns-in-Line c = let h = decide-declined _ _ _ _ (sym (ap refusal_of c.in-Line.is) ∙ c.read-reading.ensures.0) (line-refuses _)
-    in
-    (h.0, (h.1.0, (h.1.1, refl)))
+returns-in-Line c = let w = decide-declined c.args.bytes.now c.args.start.now c.args.out.now _ (sym (ap refusal_of c.in-Line.is) ∙ c.read-reading.ensures.0) (line-refuses _) in
+    record { out_after = w.0; out_after_2 = w.1.0; result_value = w.1.1; memo_after = refl }
 
 pub returns-in-Record : goal.returns-in-Record
-returns-in-Record c = let h = decide-declined _ _ _ _ (sym (ap refusal_of c.in-Record.is) ∙ c.read-reading.ensures.0) (record-refuses
-    _ _) in
-    (h.0, (h.1.0, (h.1.1, refl)))
+returns-in-Record c = let w = decide-declined c.args.bytes.now c.args.start.now c.args.out.now _ (sym (ap refusal_of c.in-Record.is) ∙ c.read-reading.ensures.0) (record-refuses _ _) in
+    record { out_after = w.0; out_after_2 = w.1.0; result_value = w.1.1; memo_after = refl }

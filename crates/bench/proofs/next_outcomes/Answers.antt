@@ -15,12 +15,16 @@ list-requires c = let r = c.read-reading.ensures in
     (subst GoodTable e (good-read _ ok), subst (λ (t : Table). 0 < t.locations) e (locations-read _ ok), c.requires)
 
 pub returns-in-None : goal.returns-in-None
-returns-in-None c = let r = c.read-reading.ensures in
-    let ok = sym r.0 ∙ ap refusal_of c.in-None.is in
-    listing-answered _ _ _ _ _ _ c.list.result _ ok (r.1 ∙ table-read _ ok) c.list.ensures
+returns-in-None c = let read = c.read-reading.ensures in
+    let ok = sym read.0 ∙ ap refusal_of c.in-None.is in
+    let l = c.list in
+    let w = listing-answered c.args.most c.args.bytes.now c.args.previous.now c.args.out.now c.args.allowance _ l.result _ ok (read.1 ∙ table-read _ ok) (l.ensures.out_after, (l.ensures.out_after_2, l.ensures.result_value)) in
+    record { out_after = w.0; out_after_2 = w.1.0; result_value = w.1.1 }
 
 pub returns-in-Line : goal.returns-in-Line
-returns-in-Line c = listing-declined _ _ _ _ _ _ (sym (ap refusal_of c.in-Line.is) ∙ c.read-reading.ensures.0) (line-refuses _)
+returns-in-Line c = let w = listing-declined c.args.most c.args.bytes.now c.args.previous.now c.args.out.now c.args.allowance _ (sym (ap refusal_of c.in-Line.is) ∙ c.read-reading.ensures.0) (line-refuses _) in
+    record { out_after = w.0; out_after_2 = w.1.0; result_value = w.1.1 }
 
 pub returns-in-Record : goal.returns-in-Record
-returns-in-Record c = listing-declined _ _ _ _ _ _ (sym (ap refusal_of c.in-Record.is) ∙ c.read-reading.ensures.0) (record-refuses _ _)
+returns-in-Record c = let w = listing-declined c.args.most c.args.bytes.now c.args.previous.now c.args.out.now c.args.allowance _ (sym (ap refusal_of c.in-Record.is) ∙ c.read-reading.ensures.0) (record-refuses _ _) in
+    record { out_after = w.0; out_after_2 = w.1.0; result_value = w.1.1 }

@@ -10,10 +10,16 @@ pub search_pruned-requires : goal.search_pruned-requires
 search_pruned-requires c = subst GoodTable (sym (c.read-reading.ensures.1 ∙ table-read _ (sym c.read-reading.ensures.0 ∙ ap refusal_of c.in-None.is))) (good-read _ (sym c.read-reading.ensures.0 ∙ ap refusal_of c.in-None.is))
 
 pub returns-in-None : goal.returns-in-None
-returns-in-None c = block-answered unpruned _ _ _ _ _ _ _ _ (sym c.read-reading.ensures.0 ∙ ap refusal_of c.in-None.is) (c.read-reading.ensures.1 ∙ table-read _ (sym c.read-reading.ensures.0 ∙ ap refusal_of c.in-None.is)) c.search_pruned.ensures
+returns-in-None c = let read = c.read-reading.ensures in
+    let ok = sym read.0 ∙ ap refusal_of c.in-None.is in
+    let s = c.search_pruned in
+    let w = block-answered unpruned c.args.bytes.now c.args.start.now c.args.out.now c.args.allowance _ _ _ _ ok (read.1 ∙ table-read _ ok) (s.ensures.out_after, (s.ensures.out_after_2, s.ensures.result_value)) in
+    record { out_after = w.0; out_after_2 = w.1.0; result_value = w.1.1 }
 
 pub returns-in-Line : goal.returns-in-Line
-returns-in-Line c = block-declined unpruned _ _ _ _ _ (sym (ap refusal_of c.in-Line.is) ∙ c.read-reading.ensures.0) (line-refuses _)
+returns-in-Line c = let w = block-declined unpruned c.args.bytes.now c.args.start.now c.args.out.now c.args.allowance _ (sym (ap refusal_of c.in-Line.is) ∙ c.read-reading.ensures.0) (line-refuses _) in
+    record { out_after = w.0; out_after_2 = w.1.0; result_value = w.1.1 }
 
 pub returns-in-Record : goal.returns-in-Record
-returns-in-Record c = block-declined unpruned _ _ _ _ _ (sym (ap refusal_of c.in-Record.is) ∙ c.read-reading.ensures.0) (record-refuses _ _)
+returns-in-Record c = let w = block-declined unpruned c.args.bytes.now c.args.start.now c.args.out.now c.args.allowance _ (sym (ap refusal_of c.in-Record.is) ∙ c.read-reading.ensures.0) (record-refuses _ _) in
+    record { out_after = w.0; out_after_2 = w.1.0; result_value = w.1.1 }

@@ -16,7 +16,7 @@ returns-then-facts-eq0 c = let a = c.args in record {
   meets = meets_on a.seen.now a.order.now a.len a.facts.now a.words.now a.kept.now c.resume.new.kept
       c.resume.ensures (row a.facts.now written_row)
       (along-none a.facts.now a.order.now a.len c.if-facts-eq0.true) _
-      c.run_on.new.kept c.run_on.ensures;
+      c.run_on.new.kept (c.run_on.ensures.goes_on, c.run_on.ensures.kept_bound);
   seen_len = c.requires.0.long;
 }
 
@@ -24,6 +24,6 @@ pub returns : goal.returns
 returns c = let a = c.args in record {
   meets = meets_on a.seen.now a.order.now a.len a.facts.now a.words.now a.kept.now c.resume.new.kept
       c.resume.ensures c.left_values-left.result c.left_values-left.ensures _
-      c.run_on-2.new.kept c.run_on-2.ensures;
+      c.run_on-2.new.kept (c.run_on-2.ensures.goes_on, c.run_on-2.ensures.kept_bound);
   seen_len = c.requires.0.long;
 }

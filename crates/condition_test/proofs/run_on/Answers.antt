@@ -29,11 +29,11 @@ note-requires c = c.bit_behind-turn.ensures.depth_le_capacity
 pub returns-then-refutes : goal.returns-then-refutes
 returns-then-refutes c = let v = c.loop-next in
     let a = c.args in record {
-      goes_on = going-refuted a.facts.now a.left.now a.words.now (take a.len a.order.now) a.kept.now v.auto v.depth
+      goes_on = going-refuted a.facts.now a.left.now a.words.now (take a.len a.order.now) a.kept.now v.kept v.depth
           v.bit v.next c.loop-next-test.true v.invariant.2 _ _ c.bit_behind-turn.result.depth
           (v.depth + c.bit_behind-turn.result.depth) c.skip_behind-skip.ensures c.bit_behind-turn.ensures.turns_by (omega arith) (omega arith)
           (sym c.refutes.ensures ∙ c.if-refutes.true) a.len c.note.new.kept c.note.ensures;
-      kept_bound = noted-depth v.auto a.len (length a.words.now) false c.bit_behind-turn.result.depth c.note.new.kept c.note.ensures
+      kept_bound = noted-depth v.kept a.len (length a.words.now) false c.bit_behind-turn.result.depth c.note.new.kept c.note.ensures
           v.invariant.1;
     }
 
@@ -53,9 +53,9 @@ pub loop-next-preserved : goal.loop-next-preserved
 loop-next-preserved c = let v = c.loop-next in
     let a = c.args in (
       c.deeper-depth.ensures.2,
-      noted-depth v.auto a.len (v.next + (1 + c.skip_behind-skip.result)) c.bit_behind-turn.result.bit c.deeper-depth.result
+      noted-depth v.kept a.len (v.next + (1 + c.skip_behind-skip.result)) c.bit_behind-turn.result.bit c.deeper-depth.result
           c.note-in-loop-next.new.kept c.note-in-loop-next.ensures v.invariant.1,
-      going_more a.facts.now a.left.now a.words.now (take a.len a.order.now) a.kept.now v.auto v.depth
+      going_more a.facts.now a.left.now a.words.now (take a.len a.order.now) a.kept.now v.kept v.depth
           v.bit v.next c.loop-next-test.true v.invariant.2 _ _ c.bit_behind-turn.result.depth
           c.deeper-depth.result c.skip_behind-skip.ensures c.bit_behind-turn.ensures.turns_by c.deeper-depth.ensures.0
           c.deeper-depth.ensures.1 a.len c.note-in-loop-next.new.kept c.note-in-loop-next.ensures,
@@ -64,7 +64,7 @@ loop-next-preserved c = let v = c.loop-next in
 pub returns : goal.returns
 returns c = let v = c.loop-next in
     let a = c.args in record {
-      goes_on = going_end a.facts.now a.left.now a.words.now (take a.len a.order.now) a.kept.now v.auto v.depth
+      goes_on = going_end a.facts.now a.left.now a.words.now (take a.len a.order.now) a.kept.now v.kept v.depth
           v.bit v.next c.loop-next-test.false v.invariant.2;
       kept_bound = v.invariant.1;
     }

@@ -16,7 +16,7 @@ pub loop-rest-init : goal.loop-rest-init
 loop-rest-init c = read-start _ _ c.ranges.readers.fits _ c.requires
 
 pub bounds-returned-e : goal.bounds-returned-e
-bounds-returned-e c = lowest c
+bounds-returned-e c = lowest (goal.at.bounds-returned-e c).After-lowest_set-e
 
 pub one-rest-requires : goal.one-rest-requires
 one-rest-requires c = lowest (goal.at.one-rest-requires c).After-lowest_set-e

@@ -20,13 +20,25 @@ copy-requires-in-Spent c = let p = c.requires in
 
 pub returns-in-Found : goal.returns-in-Found
 returns-in-Found c = let p = c.requires in
-    rw c.in-Found.is
-    (copied (λ l. found l c.in-Found.visited) c.in-Found.len _ _ _ (omega (arith, p.0, subst (AtMost slots) c.in-Found.is p.1)) c.copy.ensures)
+    let w = copied (λ l. found l c.in-Found.visited) c.in-Found.len _ _ _ (omega (arith, p.0, subst (AtMost slots) c.in-Found.is p.1)) c.copy.ensures in
+    record {
+      out_after = rw c.in-Found.is w.0;
+      out_after_2 = rw c.in-Found.is w.1.0;
+      result_value = rw c.in-Found.is w.1.1;
+    }
 
 pub returns-in-NoneLeft : goal.returns-in-NoneLeft
-returns-in-NoneLeft c = (search (none_said, rules), (search (none_written, rules), search (none-counted, rules)))
+returns-in-NoneLeft c = record {
+  out_after = search (none_said, rules);
+  out_after_2 = search (none_written, rules);
+  result_value = search (none-counted, rules);
+}
 
 pub returns-in-Spent : goal.returns-in-Spent
 returns-in-Spent c = let p = c.requires in
-    rw c.in-Spent.is
-    (copied (λ l. spent l c.in-Spent.visited) c.in-Spent.len _ _ _ (omega (arith, p.0, subst (AtMost slots) c.in-Spent.is p.1)) c.copy-in-Spent.ensures)
+    let w = copied (λ l. spent l c.in-Spent.visited) c.in-Spent.len _ _ _ (omega (arith, p.0, subst (AtMost slots) c.in-Spent.is p.1)) c.copy-in-Spent.ensures in
+    record {
+      out_after = rw c.in-Spent.is w.0;
+      out_after_2 = rw c.in-Spent.is w.1.0;
+      result_value = rw c.in-Spent.is w.1.1;
+    }

@@ -6,4 +6,4 @@ use Rattle.search.proofs.search.Goals as goal
 
 pub returns : goal.returns
 returns c = let r = replied-always {words = []} (stated_outcome _) _ _ _ refl c.search_by.ensures in
-    (r.reply, (r.buffer, r.length))
+    record { out_after = r.reply; out_after_2 = r.buffer; result_value = r.length }

@@ -17,15 +17,15 @@ loop-e-init c = pad-start _ _ _
 
 pub overflow_cast-place-in-loop-e : goal.overflow_cast-place-in-loop-e
 unfolding location event
-overflow_cast-place-in-loop-e c = omega (arith, located c)
+overflow_cast-place-in-loop-e c = omega (arith, located (goal.at.overflow_cast-place-in-loop-e c).In-loop-e)
 
 pub offset_bounds-s-x : goal.offset_bounds-s-x
 unfolding location event
-offset_bounds-s-x c = omega (arith, located c)
+offset_bounds-s-x c = omega (arith, located (goal.at.offset_bounds-s-x c).In-loop-e)
 
 pub bounds-s-x : goal.bounds-s-x
 unfolding location event
-bounds-s-x c = located c
+bounds-s-x c = located (goal.at.bounds-s-x c).In-loop-e
 
 pub loop-e-preserved : goal.loop-e-preserved
 unfolding location event

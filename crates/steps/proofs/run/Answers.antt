@@ -23,7 +23,7 @@ pub loop-i-preserved : goal.loop-i-preserved
 loop-i-preserved c = let v = c.loop-i.invariant in
     run_more v c.loop-i-test.true c.requires.0.tso
     (subst (Outcome _ _ _ _ _ _) c.in-Taken.is (c.take-step.ensures v.at v.reached v.holds))
-    (c.take-step.auto.1.1.0 ∙ v.long) (c.take-step.auto.1.1.1.0 ∙ v.each)
+    (c.take-step.auto.order ∙ v.long) (c.take-step.auto.rf ∙ v.each)
 
 pub returns : goal.returns
 returns c = run_end c.loop-i.invariant c.loop-i-test.false
