@@ -19,43 +19,43 @@ fn with_mask(line: Line, text: &[u8], mask: u32) -> Line {
     line.text(text).text(b", mask ").number(mask as u64)
 }
 
-fn advise(k: u64, block: &[u8]) {
-    let allowance = calls::number();
-    let line = calls::begin(k);
+fn advise(rt: &HostRuntime, k: u64, block: &[u8]) {
+    let allowance = calls::number(rt);
+    let line = calls::begin(rt, k);
     let said = match bench::advise(block, allowance) {
         Advice::Refused(r) => words::refused(line, r),
         Advice::Advised(mask) => with_mask(line, b"advised", mask),
         Advice::Undecided(mask) => with_mask(line, b"undecided", mask),
         Advice::NoHelp => line.text(b"no help"),
     };
-    said.end();
+    let _ = said.end();
 }
 
-fn call(tag: u8, k: u64, block: &mut [u8], size: usize) -> Effect {
+fn call(rt: &HostRuntime, tag: u8, k: u64, block: &mut [u8], size: usize) -> Effect {
     if tag == calls::LEND {
-        return Effect::Lent(calls::frame(block));
+        return Effect::Lent(calls::frame(rt, block));
     }
     if tag == ADVISE {
-        advise(k, console::front(block, size));
+        advise(rt, k, console::front(block, size));
         return Effect::Called;
     }
     Effect::End
 }
 
-fn turn(k: u64, block: &mut [u8], size: usize) -> Effect {
-    match console::byte() {
-        Input::Byte(tag) => call(tag, k, block, size),
+fn turn(rt: &HostRuntime, k: u64, block: &mut [u8], size: usize) -> Effect {
+    match console::byte(rt) {
+        Input::Byte(tag) => call(rt, tag, k, block, size),
         Input::End => Effect::End,
     }
 }
 
 // The bound makes the loop end for the proof: nothing says that input does.
-fn advice_calls(block: &mut [u8]) {
+fn advice_calls(rt: &HostRuntime, block: &mut [u8]) {
     let mut size: usize = 0;
     let mut k: u64 = 0;
     let mut turns: u64 = 0;
     while turns < u64::MAX {
-        match turn(k, block, size) {
+        match turn(rt, k, block, size) {
             Effect::End => return,
             Effect::Lent(n) => size = n,
             Effect::Called => k += 1,
@@ -64,7 +64,7 @@ fn advice_calls(block: &mut [u8]) {
     }
 }
 
-fn main() {
+fn main(rt: HostRuntime) {
     let mut block = [0u8; calls::TEST];
-    advice_calls(&mut block);
+    advice_calls(&rt, &mut block);
 }

@@ -20,42 +20,42 @@ pub const LIST: usize = 256;
 // What an answer buffer holds before the call.
 pub const PREFILL: u8 = 0xEE;
 
-pub fn length() -> usize
+pub fn length(rt: &HostRuntime) -> usize
     ensures { result ≤ 255 }
 {
-    match console::byte() {
+    match console::byte(rt) {
         Input::Byte(b) => b as usize,
         Input::End => 0,
     }
 }
 
 // Reads a list, a length and that many bytes; answers how many came.
-pub fn list(buffer: &mut [u8]) -> usize {
-    let n = length();
-    console::read(buffer, n)
+pub fn list(rt: &HostRuntime, buffer: &mut [u8]) -> usize {
+    let n = length(rt);
+    console::read(rt, buffer, n)
 }
 
 // Reads a test or a suite, a length of two bytes and that many bytes; answers how many came.
-pub fn frame(buffer: &mut [u8]) -> usize {
-    let n = console::word();
-    console::read(buffer, n as usize)
+pub fn frame(rt: &HostRuntime, buffer: &mut [u8]) -> usize {
+    let n = console::word(rt);
+    console::read(rt, buffer, n as usize)
 }
 
 // A number of eight bytes, the lowest first.
-pub fn number() -> u64 {
-    let a = console::word();
-    let b = console::word();
-    let c = console::word();
-    let d = console::word();
+pub fn number(rt: &HostRuntime) -> u64 {
+    let a = console::word(rt);
+    let b = console::word(rt);
+    let c = console::word(rt);
+    let d = console::word(rt);
     a + WORDS * (b + WORDS * (c + WORDS * d))
 }
 
 // Begins the line of call k.
-pub fn begin(k: u64) -> Line {
-    Line::output().number(k).text(b": ")
+pub fn begin(rt: &HostRuntime, k: u64) -> Line {
+    Line::output(rt).number(k).text(b": ")
 }
 
 // Ends the line of a call that was lent an answer buffer: the whole of it, as it now is.
 pub fn end(line: Line, answer: &[u8]) {
-    line.text(b", buffer").list(answer).end();
+    let _ = line.text(b", buffer").list(answer).end();
 }

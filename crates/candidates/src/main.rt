@@ -59,22 +59,23 @@ fn axiom(line: Line, broken: Axiom) -> Line {
     }
 }
 
-fn verdict(k: u64, block: &[u8], returned: &[u8], order: &[u8]) {
-    let line = calls::begin(k);
+fn verdict(rt: &HostRuntime, k: u64, block: &[u8], returned: &[u8], order: &[u8]) {
+    let line = calls::begin(rt, k);
     let said = match bench::verdict(block, returned, order) {
         Verdict::Refused(r) => words::refused(line, r),
         Verdict::Broken(broken) => axiom(line, broken),
         Verdict::Allowed => line.text(b"allowed"),
     };
-    said.end();
+    let _ = said.end();
 }
 
-fn read_verdict(k: u64, block: &[u8]) {
+fn read_verdict(rt: &HostRuntime, k: u64, block: &[u8]) {
     let mut returned = [0u8; calls::LIST];
-    let entries = calls::list(&mut returned);
+    let entries = calls::list(rt, &mut returned);
     let mut order = [0u8; calls::LIST];
-    let n = calls::list(&mut order);
+    let n = calls::list(rt, &mut order);
     verdict(
+        rt,
         k,
         block,
         console::front(&returned, entries),
@@ -82,8 +83,8 @@ fn read_verdict(k: u64, block: &[u8]) {
     );
 }
 
-fn returns(k: u64, block: &[u8], order: &[u8], answer: &mut [u8]) {
-    let line = calls::begin(k);
+fn returns(rt: &HostRuntime, k: u64, block: &[u8], order: &[u8], answer: &mut [u8]) {
+    let line = calls::begin(rt, k);
     let refusal = bench::returns(block, order, answer);
     let said = match refusal {
         Refusal::None => line.text(b"written"),
@@ -93,65 +94,65 @@ fn returns(k: u64, block: &[u8], order: &[u8], answer: &mut [u8]) {
     calls::end(said, answer);
 }
 
-fn read_returns(k: u64, block: &[u8]) {
+fn read_returns(rt: &HostRuntime, k: u64, block: &[u8]) {
     let mut order = [0u8; calls::LIST];
-    let n = calls::list(&mut order);
+    let n = calls::list(rt, &mut order);
     let mut answer = [calls::PREFILL; calls::LIST];
-    let size = calls::length();
-    returns(k, block, console::front(&order, n), &mut answer[..size]);
+    let size = calls::length(rt);
+    returns(rt, k, block, console::front(&order, n), &mut answer[..size]);
 }
 
-fn pair(k: u64, block: &[u8], returned: &[u8]) {
-    let a = calls::number();
-    let b = calls::number();
-    let line = calls::begin(k);
+fn pair(rt: &HostRuntime, k: u64, block: &[u8], returned: &[u8]) {
+    let a = calls::number(rt);
+    let b = calls::number(rt);
+    let line = calls::begin(rt, k);
     let said = match bench::rules(block, returned, a, b) {
         PairRules::Refused(r) => words::refused(line, r),
         PairRules::Held(set) => rules(line, set),
     };
-    said.end();
+    let _ = said.end();
 }
 
-fn read_pair(k: u64, block: &[u8]) {
+fn read_pair(rt: &HostRuntime, k: u64, block: &[u8]) {
     let mut returned = [0u8; calls::LIST];
-    let entries = calls::list(&mut returned);
-    pair(k, block, console::front(&returned, entries));
+    let entries = calls::list(rt, &mut returned);
+    pair(rt, k, block, console::front(&returned, entries));
 }
 
-fn call(tag: u8, k: u64, block: &mut [u8], size: usize) -> Effect {
+fn call(rt: &HostRuntime, tag: u8, k: u64, block: &mut [u8], size: usize) -> Effect {
     if tag == calls::LEND {
-        return Effect::Lent(calls::frame(block));
+        return Effect::Lent(calls::frame(rt, block));
     }
     let bytes = console::front(block, size);
     if tag == VERDICT {
-        read_verdict(k, bytes);
+        read_verdict(rt, k, bytes);
         return Effect::Called;
     }
     if tag == RETURNED {
-        read_returns(k, bytes);
+        read_returns(rt, k, bytes);
         return Effect::Called;
     }
     if tag == RULES {
-        read_pair(k, bytes);
+        read_pair(rt, k, bytes);
         return Effect::Called;
     }
     Effect::End
 }
 
-fn turn(k: u64, block: &mut [u8], size: usize) -> Effect {
-    match console::byte() {
-        Input::Byte(tag) => call(tag, k, block, size),
+fn turn(rt: &HostRuntime, k: u64, block: &mut [u8], size: usize) -> Effect {
+    match console::byte(rt) {
+        Input::Byte(tag) => call(rt, tag, k, block, size),
         Input::End => Effect::End,
     }
 }
 
 // The bound makes the loop end for the proof: nothing says that input does.
-fn candidates(block: &mut [u8]) {
+fn candidates(rt: &HostRuntime, block: &mut [u8]) {
     let mut size: usize = 0;
     let mut k: u64 = 0;
     let mut turns: u64 = 0;
     while turns < u64::MAX {
-        match turn(k, block, size) {
+        match turn(rt, k, block, size) {
             Effect::End => return,
             Effect::Lent(n) => size = n,
             Effect::Called => k += 1,
@@ -160,7 +161,7 @@ fn candidates(block: &mut [u8]) {
     }
 }
 
-fn main() {
+fn main(rt: HostRuntime) {
     let mut block = [0u8; calls::TEST];
-    candidates(&mut block);
+    candidates(&rt, &mut block);
 }

@@ -1,5 +1,6 @@
 // What a program's arguments ask for.
 use super::Line;
+use std::env::{Env, FillError};
 
 // To run, where there is no argument; to say how it is used; or something that no program here knows.
 #[derive(Clone, Copy)]
@@ -26,24 +27,26 @@ pub fn same(a: &[u8], b: &[u8]) -> bool {
     true
 }
 
-pub fn asked() -> Command {
-    if os::arg_count() <= 1 {
-        return Command::Run;
-    }
+pub fn asked(rt: &HostRuntime) -> Command {
     let mut word = [0u8; LONGEST];
-    let n = os::arg(1, &mut word);
-    if same(&word[..n], b"--help") | same(&word[..n], b"-h") {
-        Command::Help
-    } else {
-        Command::Unknown
+    match rt.arg(1, &mut word) {
+        Err(FillError::NotPresent) => Command::Run,
+        Err(FillError::TooLong) => Command::Unknown,
+        Ok(n) => {
+            if same(&word[..n], b"--help") | same(&word[..n], b"-h") {
+                Command::Help
+            } else {
+                Command::Unknown
+            }
+        }
     }
 }
 
 // Says on standard error which argument isn't known.
-pub fn unknown_argument(program: &[u8]) {
+pub fn unknown_argument(rt: &HostRuntime, program: &[u8]) {
     let mut word = [0u8; LONGEST];
-    let n = os::arg(1, &mut word);
-    Line::error()
+    let n = rt.arg(1, &mut word).unwrap_or(0);
+    let _ = Line::error(rt)
         .text(program)
         .text(b": unknown argument '")
         .text(&word[..n])

@@ -2,6 +2,7 @@
 #![tactic(auto)]
 
 mod arguments;
+mod failed;
 mod line;
 mod rows;
 mod stdin;
@@ -9,26 +10,24 @@ mod stdin;
 ghost use Rattle.std.specs.Prelude.{◌≡◌, take, drop};
 
 pub use arguments::{Command, asked, same, unknown_argument};
-use libc::{STDERR_FILENO, STDOUT_FILENO};
-pub use line::Line;
+pub use line::{File, Line};
 pub use rows::row;
+use std::io;
 pub use stdin::{Filled, Input, byte, byte_or_zero, fill, fill_to, read, word};
 
-// Prints a text; false if it was lost.
-pub fn print(text: &[u8]) -> bool {
-    io::write_all(STDOUT_FILENO, text)
+// Prints a text; an error if it was lost.
+pub fn print(rt: &HostRuntime, text: &[u8]) -> io::Result<()> {
+    rt.write_all(text)
 }
 
-// Says on standard error that a read just failed, and why.
-pub fn input_failed(program: &[u8]) {
-    io::write_all(STDERR_FILENO, program);
-    os::fail(b": standard input");
+// Says on standard error that a read failed, and why.
+pub fn input_failed(rt: &HostRuntime, program: &[u8], e: io::Error) {
+    failed::say(rt, program, b": standard input: ", e);
 }
 
-// Says on standard error that output was just lost, and why.
-pub fn output_failed(program: &[u8]) {
-    io::write_all(STDERR_FILENO, program);
-    os::fail(b": standard output");
+// Says on standard error that output was lost, and why.
+pub fn output_failed(rt: &HostRuntime, program: &[u8], e: io::Error) {
+    failed::say(rt, program, b": standard output: ", e);
 }
 
 pub fn wide(x: u8) -> u64

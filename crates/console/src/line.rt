@@ -1,53 +1,86 @@
 // A line that is put together first, so that it is written at once.
-ghost use Rattle.std.specs.Prelude.{◌++◌, ◌≡◌};
+ghost use Rattle.std.specs.Prelude.{◌++◌, ◌≡◌, ◌≤◌, length, take};
 ghost use Rattle.console.specs.Lines.{AddsTo};
-ghost use Rattle.console.specs.Texts.{ascii, decimal, spaced};
+ghost use Rattle.console.specs.Texts.{ascii, decimal, digits_of, spaced};
 
-use libc::{STDERR_FILENO, STDOUT_FILENO};
+use std::io::{Error, Print, Result, Stderr, Stdout};
 
 // How many bytes are kept; of a longer line these are written as soon as they are full. Each refusal with its sentence has room.
 pub const ROOM: usize = 512;
+
+// What a line is written to.
+#[derive(Clone, Copy)]
+pub enum File {
+    Output(Stdout),
+    Error(Stderr),
+}
 
 // The first `len` bytes are kept, and are to be written to `file`. Once a part of a line was lost, nothing more of it is
 // written, so that the error stays that of the loss.
 #[derive(Drop)]
 pub struct Line {
-    pub file: i32,
+    pub file: File,
     pub bytes: [u8; ROOM],
     pub len: usize,
-    pub lost: bool,
+    pub lost: Option<Error>,
+}
+
+// A number of 64 bits has no more.
+const DIGITS: usize = 20;
+
+// Writes the digits of n, as far as k go, to the front of the buffer; answers how many.
+fn digits_of(k: usize, n: u64, digits: &mut [u8]) -> usize
+    requires { k ≤ length digits.old }
+    ensures few { result ≤ k }
+    ensures same_length { length digits.new ≡ length digits.old }
+    ensures value { take result digits.new ≡ digits_of k n }
+{
+    if k == 0 {
+        0
+    } else if n < 10 {
+        digits[0] = b'0' + n as u8;
+        1
+    } else {
+        let front = digits_of(k - 1, n / 10, digits);
+        digits[front] = b'0' + (n % 10) as u8;
+        front + 1
+    }
 }
 
 impl Line {
     // For standard output.
-    pub fn output() -> Line
+    pub fn output(rt: &HostRuntime) -> Line
         ensures { result.len ≡ 0 }
     {
         Line {
-            file: STDOUT_FILENO,
+            file: File::Output(rt.stdout()),
             bytes: [0; ROOM],
             len: 0,
-            lost: false,
+            lost: None,
         }
     }
 
     // For standard error.
-    pub fn error() -> Line {
+    pub fn error(rt: &HostRuntime) -> Line {
         Line {
-            file: STDERR_FILENO,
+            file: File::Error(rt.stderr()),
             bytes: [0; ROOM],
             len: 0,
-            lost: false,
+            lost: None,
         }
     }
 
-    // False if a part of the line was lost.
-    fn write(self) -> bool {
-        if self.lost {
-            return false;
+    // An error if a part of the line was lost.
+    fn write(self) -> Result<()> {
+        if let Some(e) = self.lost {
+            return Err(e);
         }
         let bytes = self.bytes;
-        io::write_all(self.file, super::front(&bytes, self.len))
+        let kept = super::front(&bytes, self.len);
+        match self.file {
+            File::Output(file) => file.write_all(kept),
+            File::Error(file) => file.write_all(kept),
+        }
     }
 
     pub fn text(self, text: &[u8]) -> Line
@@ -65,7 +98,7 @@ impl Line {
                     len,
                     lost,
                 };
-                lost = !full.write();
+                lost = full.write().err();
                 len = 0;
             }
             bytes[len] = text[i];
@@ -83,8 +116,8 @@ impl Line {
     pub fn number(self, n: u64) -> Line
         ensures { AddsTo self (decimal n) result }
     {
-        let mut digits = [0u8; 20];
-        let k = io::decimal(n, &mut digits);
+        let mut digits = [0u8; DIGITS];
+        let k = digits_of(DIGITS, n, &mut digits);
         self.text(&digits[..k])
     }
 
@@ -119,8 +152,8 @@ impl Line {
         line
     }
 
-    // Ends the line and writes it; false if a part of it was lost.
-    pub fn end(self) -> bool {
+    // Ends the line and writes it; an error if a part of it was lost.
+    pub fn end(self) -> Result<()> {
         self.text(b"\n").write()
     }
 }

@@ -30,9 +30,9 @@ fn said(line: Line, decision: Decision) -> Line {
     }
 }
 
-fn same_words(a: Decision, b: Decision) -> bool {
-    let one = said(Line::output(), a);
-    let other = said(Line::output(), b);
+fn same_words(rt: &HostRuntime, a: Decision, b: Decision) -> bool {
+    let one = said(Line::output(rt), a);
+    let other = said(Line::output(rt), b);
     let left = one.bytes;
     let right = other.bytes;
     console::same(
@@ -43,6 +43,7 @@ fn same_words(a: Decision, b: Decision) -> bool {
 
 // The same call with a memo.
 fn with_memo(
+    rt: &HostRuntime,
     k: u64,
     block: &[u8],
     start: &[u8],
@@ -52,15 +53,23 @@ fn with_memo(
     memo: &mut [u64],
 ) {
     let other = bench::decide_with(block, start, buffer, memo);
-    if same_words(decision, other) & console::same(answer, buffer) {
+    if same_words(rt, decision, other) & console::same(answer, buffer) {
         return;
     }
-    let line = calls::begin(k).text(b"with a memo, ");
+    let line = calls::begin(rt, k).text(b"with a memo, ");
     calls::end(said(line, other), buffer);
 }
 
 // With one of so many words.
-fn with_words(k: u64, block: &[u8], start: &[u8], answer: &[u8], decision: Decision, words: usize)
+fn with_words(
+    rt: &HostRuntime,
+    k: u64,
+    block: &[u8],
+    start: &[u8],
+    answer: &[u8],
+    decision: Decision,
+    words: usize,
+)
     requires answer_len_bound { length answer.now ≤ 255 }
     requires words_bound { words ≤ 7 }
 {
@@ -68,6 +77,7 @@ fn with_words(k: u64, block: &[u8], start: &[u8], answer: &[u8], decision: Decis
     let mut memo = [PREFILL; MEMO];
     let size = answer.len();
     with_memo(
+        rt,
         k,
         block,
         start,
@@ -78,49 +88,49 @@ fn with_words(k: u64, block: &[u8], start: &[u8], answer: &[u8], decision: Decis
     );
 }
 
-fn decide(k: u64, block: &[u8], start: &[u8], answer: &mut [u8])
+fn decide(rt: &HostRuntime, k: u64, block: &[u8], start: &[u8], answer: &mut [u8])
     requires { length answer.old ≤ 255 }
 {
     let decision = bench::decide(block, start, answer);
-    calls::end(said(calls::begin(k), decision), answer);
-    with_words(k, block, start, answer, decision, 0);
-    with_words(k, block, start, answer, decision, 1);
-    with_words(k, block, start, answer, decision, MEMO);
+    calls::end(said(calls::begin(rt, k), decision), answer);
+    with_words(rt, k, block, start, answer, decision, 0);
+    with_words(rt, k, block, start, answer, decision, 1);
+    with_words(rt, k, block, start, answer, decision, MEMO);
 }
 
-fn read_call(k: u64, block: &[u8]) {
+fn read_call(rt: &HostRuntime, k: u64, block: &[u8]) {
     let mut start = [0u8; calls::LIST];
-    let n = calls::list(&mut start);
+    let n = calls::list(rt, &mut start);
     let mut answer = [calls::PREFILL; calls::LIST];
-    let size = calls::length();
-    decide(k, block, console::front(&start, n), &mut answer[..size]);
+    let size = calls::length(rt);
+    decide(rt, k, block, console::front(&start, n), &mut answer[..size]);
 }
 
-fn call(tag: u8, k: u64, block: &mut [u8], size: usize) -> Effect {
+fn call(rt: &HostRuntime, tag: u8, k: u64, block: &mut [u8], size: usize) -> Effect {
     if tag == calls::LEND {
-        return Effect::Lent(calls::frame(block));
+        return Effect::Lent(calls::frame(rt, block));
     }
     if tag == NEXT {
-        read_call(k, console::front(block, size));
+        read_call(rt, k, console::front(block, size));
         return Effect::Called;
     }
     Effect::End
 }
 
-fn turn(k: u64, block: &mut [u8], size: usize) -> Effect {
-    match console::byte() {
-        Input::Byte(tag) => call(tag, k, block, size),
+fn turn(rt: &HostRuntime, k: u64, block: &mut [u8], size: usize) -> Effect {
+    match console::byte(rt) {
+        Input::Byte(tag) => call(rt, tag, k, block, size),
         Input::End => Effect::End,
     }
 }
 
 // The bound makes the loop end for the proof: nothing says that input does.
-fn decide_calls(block: &mut [u8]) {
+fn decide_calls(rt: &HostRuntime, block: &mut [u8]) {
     let mut size: usize = 0;
     let mut k: u64 = 0;
     let mut turns: u64 = 0;
     while turns < u64::MAX {
-        match turn(k, block, size) {
+        match turn(rt, k, block, size) {
             Effect::End => return,
             Effect::Lent(n) => size = n,
             Effect::Called => k += 1,
@@ -129,7 +139,7 @@ fn decide_calls(block: &mut [u8]) {
     }
 }
 
-fn main() {
+fn main(rt: HostRuntime) {
     let mut block = [0u8; calls::TEST];
-    decide_calls(&mut block);
+    decide_calls(&rt, &mut block);
 }

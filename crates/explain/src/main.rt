@@ -15,8 +15,9 @@ const LIST: usize = EditionTwo::EVENTS;
 
 const RULES: u8 = 13;
 
-fn usage() {
+fn usage(rt: &HostRuntime) {
     let printed = console::print(
+        rt,
         b"\
 explain: the verdict of the RISC-V memory model for one candidate, in words
 
@@ -32,8 +33,8 @@ The answer is 'allowed', or the first of preserved order, load value, atomicity,
 candidate breaks, with its place; or the refusal of what was handed in. If reading or writing failed, standard error says so.
 ",
     );
-    if !printed {
-        console::output_failed(b"explain");
+    if let Err(e) = printed {
+        console::output_failed(rt, b"explain", e);
     }
 }
 
@@ -146,26 +147,33 @@ fn rules(line: Line, set: u16) -> Line {
     named
 }
 
-fn preserved_order(t: Table, a: EventNo, b: EventNo, set: u16) -> Line {
-    let first = event(Line::output().text(b"preserved order: "), a).text(b" before ");
+fn preserved_order(rt: &HostRuntime, t: Table, a: EventNo, b: EventNo, set: u16) -> Line {
+    let first = event(Line::output(rt).text(b"preserved order: "), a).text(b" before ");
     let said = rules(event(first, b), set)
         .item(b", but the order has ", b.0)
         .text(b" first");
     describe(describe(said, t, a), t, b)
 }
 
-fn load_value(t: Table, test: &[u8], returned: &[u8], order: &[u8], r: EventNo) -> Line {
+fn load_value(
+    rt: &HostRuntime,
+    t: Table,
+    test: &[u8],
+    returned: &[u8],
+    order: &[u8],
+    r: EventNo,
+) -> Line {
     let mut list = [NOTHING; LIST];
     bench::returns(test, order, &mut list);
-    let reader = event(Line::output().text(b"load value: "), r).text(b" returns from ");
+    let reader = event(Line::output(rt).text(b"load value: "), r).text(b" returns from ");
     let given = source(reader, entry(returned, r)).text(b", but the order makes it return from ");
     describe(source(given, entry(&list, r)), t, r)
 }
 
 // The other case of the axiom, that what the LR returns from doesn't precede the SC, can't come up once preserved order and
 // load value hold.
-fn atomicity(t: Table, returned: &[u8], lr: EventNo, w: EventNo) -> Line {
-    let reader = Line::output()
+fn atomicity(rt: &HostRuntime, t: Table, returned: &[u8], lr: EventNo, w: EventNo) -> Line {
+    let reader = Line::output(rt)
         .item(b"atomicity: LR ", lr.0)
         .text(b" returns from ");
     let between = source(reader, entry(returned, lr)).text(b", but ");
@@ -173,8 +181,8 @@ fn atomicity(t: Table, returned: &[u8], lr: EventNo, w: EventNo) -> Line {
     describe(describe(said, t, lr), t, w)
 }
 
-fn value_read(t: Table, returned: &[u8], r: EventNo) -> Line {
-    let reader = event(Line::output().text(b"value read: "), r);
+fn value_read(rt: &HostRuntime, t: Table, returned: &[u8], r: EventNo) -> Line {
+    let reader = event(Line::output(rt).text(b"value read: "), r);
     if (r.0 as usize) < table::CAPACITY {
         let e = t.events[r.0 as usize];
         let w = entry(returned, r);
@@ -189,8 +197,8 @@ fn value_read(t: Table, returned: &[u8], r: EventNo) -> Line {
     }
 }
 
-fn final_value(t: Table, order: &[u8], x: LocationNo) -> Line {
-    let location = Line::output().item(b"final value: location ", x.0);
+fn final_value(rt: &HostRuntime, t: Table, order: &[u8], x: LocationNo) -> Line {
+    let location = Line::output(rt).item(b"final value: location ", x.0);
     if (x.0 as usize) < EditionOne::LOCATIONS {
         let stated = t.finals[x.0 as usize];
         let value = returns::final_value(t, order, x);
@@ -202,56 +210,70 @@ fn final_value(t: Table, order: &[u8], x: LocationNo) -> Line {
     }
 }
 
-fn broken(axiom: Axiom, t: Table, test: &[u8], returned: &[u8], order: &[u8]) -> Line {
+fn broken(
+    rt: &HostRuntime,
+    axiom: Axiom,
+    t: Table,
+    test: &[u8],
+    returned: &[u8],
+    order: &[u8],
+) -> Line {
     match axiom {
-        Axiom::PreservedOrder(a, b, set) => preserved_order(t, a, b, set),
-        Axiom::LoadValue(r) => load_value(t, test, returned, order, r),
-        Axiom::Atomicity(lr, w) => atomicity(t, returned, lr, w),
-        Axiom::ValueRead(r) => value_read(t, returned, r),
-        Axiom::FinalValue(x) => final_value(t, order, x),
+        Axiom::PreservedOrder(a, b, set) => preserved_order(rt, t, a, b, set),
+        Axiom::LoadValue(r) => load_value(rt, t, test, returned, order, r),
+        Axiom::Atomicity(lr, w) => atomicity(rt, t, returned, lr, w),
+        Axiom::ValueRead(r) => value_read(rt, t, returned, r),
+        Axiom::FinalValue(x) => final_value(rt, t, order, x),
     }
 }
 
-fn verdict(t: Table, test: &[u8], returned: &[u8], order: &[u8]) -> Line {
+fn verdict(rt: &HostRuntime, t: Table, test: &[u8], returned: &[u8], order: &[u8]) -> Line {
     match bench::verdict(test, returned, order) {
-        Verdict::Refused(r) => words::explained(Line::output(), r),
-        Verdict::Broken(axiom) => broken(axiom, t, test, returned, order),
+        Verdict::Refused(r) => words::explained(Line::output(rt), r),
+        Verdict::Broken(axiom) => broken(rt, axiom, t, test, returned, order),
         Verdict::Allowed => {
-            Line::output().text(b"allowed: the order gives the stated outcome and breaks no rule")
+            Line::output(rt).text(b"allowed: the order gives the stated outcome and breaks no rule")
         }
     }
 }
 
 // The input begins with the test, as a suite does. The returned list has an entry for each event of it, and what follows is the
 // order. A test that is refused has no event, and its refusal comes before those of the lists.
-fn candidate(input: &[u8]) {
+fn candidate(rt: &HostRuntime, input: &[u8]) {
     let test = suite_walk::test(input, 0);
     let lists = console::past(input, test.len());
     let t = bench::read(test).table;
     let n = t.count as usize;
-    if !verdict(t, test, console::front(lists, n), console::past(lists, n)).end() {
-        console::output_failed(b"explain");
+    let said = verdict(
+        rt,
+        t,
+        test,
+        console::front(lists, n),
+        console::past(lists, n),
+    );
+    if let Err(e) = said.end() {
+        console::output_failed(rt, b"explain", e);
     }
 }
 
-fn explain() {
+fn explain(rt: &HostRuntime) {
     let mut buffer = [0u8; INPUT];
-    match console::fill(&mut buffer) {
-        Filled::Failed => console::input_failed(b"explain"),
+    match console::fill(rt, &mut buffer) {
+        Filled::Failed(e) => console::input_failed(rt, b"explain", e),
         Filled::Bytes(n) => {
             if n == 0 {
-                usage();
+                usage(rt);
             } else {
-                candidate(console::front(&buffer, n));
+                candidate(rt, console::front(&buffer, n));
             }
         }
     }
 }
 
-fn main() {
-    match console::asked() {
-        Command::Run => explain(),
-        Command::Help => usage(),
-        Command::Unknown => console::unknown_argument(b"explain"),
+fn main(rt: HostRuntime) {
+    match console::asked(&rt) {
+        Command::Run => explain(&rt),
+        Command::Help => usage(&rt),
+        Command::Unknown => console::unknown_argument(&rt, b"explain"),
     }
 }

@@ -30,14 +30,14 @@ fn wide(x: u16) -> u64 {
 }
 
 // Reads a list of values, a length and that many numbers of two bytes; answers how many these are. There is room for any list.
-fn values(list: &mut [u16]) -> usize {
-    let n = calls::length();
+fn values(rt: &HostRuntime, list: &mut [u16]) -> usize {
+    let n = calls::length(rt);
     let mut i: usize = 0;
     while i < n {
         if list.len() <= i {
             return n;
         }
-        list[i] = console::word() as u16;
+        list[i] = console::word(rt) as u16;
         i += 1;
     }
     n
@@ -49,10 +49,10 @@ fn front(list: &[u16], n: usize) -> &[u16] {
 }
 
 // How many places the buffer of a call has.
-fn places() -> usize
+fn places(rt: &HostRuntime) -> usize
     ensures { result ≤ 4096 }
 {
-    let n = console::word() as usize;
+    let n = console::word(rt) as usize;
     if n < PLACES { n } else { PLACES }
 }
 
@@ -81,53 +81,59 @@ fn said(line: Line, reply: OutcomeReply) -> Line {
     }
 }
 
-fn asked(tag: u8, block: &[u8], previous: &[u16], out: &mut [u16]) -> OutcomeReply {
-    let allowance = calls::number();
+fn asked(
+    rt: &HostRuntime,
+    tag: u8,
+    block: &[u8],
+    previous: &[u16],
+    out: &mut [u16],
+) -> OutcomeReply {
+    let allowance = calls::number(rt);
     if tag == OUTCOME {
         return bench::outcome(block, previous, out, allowance);
     }
     bench::outcomes(block, previous, out, allowance)
 }
 
-fn list(tag: u8, k: u64, block: &[u8], previous: &[u16], out: &mut [u16]) {
-    let reply = asked(tag, block, previous, out);
-    let line = said(calls::begin(k), reply).text(b", buffer");
-    spaced(line, out).end();
+fn list(rt: &HostRuntime, tag: u8, k: u64, block: &[u8], previous: &[u16], out: &mut [u16]) {
+    let reply = asked(rt, tag, block, previous, out);
+    let line = said(calls::begin(rt, k), reply).text(b", buffer");
+    let _ = spaced(line, out).end();
 }
 
-fn read_list(tag: u8, k: u64, block: &[u8]) {
+fn read_list(rt: &HostRuntime, tag: u8, k: u64, block: &[u8]) {
     let mut previous = [0u16; calls::LIST];
-    let n = values(&mut previous);
+    let n = values(rt, &mut previous);
     let mut out = [PREFILL; PLACES];
-    let size = places();
-    list(tag, k, block, front(&previous, n), &mut out[..size]);
+    let size = places(rt);
+    list(rt, tag, k, block, front(&previous, n), &mut out[..size]);
 }
 
-fn call(tag: u8, k: u64, block: &mut [u8], size: usize) -> Effect {
+fn call(rt: &HostRuntime, tag: u8, k: u64, block: &mut [u8], size: usize) -> Effect {
     if tag == calls::LEND {
-        return Effect::Lent(calls::frame(block));
+        return Effect::Lent(calls::frame(rt, block));
     }
     if (tag == OUTCOME) | (tag == OUTCOMES) {
-        read_list(tag, k, console::front(block, size));
+        read_list(rt, tag, k, console::front(block, size));
         return Effect::Called;
     }
     Effect::End
 }
 
-fn turn(k: u64, block: &mut [u8], size: usize) -> Effect {
-    match console::byte() {
-        Input::Byte(tag) => call(tag, k, block, size),
+fn turn(rt: &HostRuntime, k: u64, block: &mut [u8], size: usize) -> Effect {
+    match console::byte(rt) {
+        Input::Byte(tag) => call(rt, tag, k, block, size),
         Input::End => Effect::End,
     }
 }
 
 // The bound makes the loop end for the proof: nothing says that input does.
-fn outcome_calls(block: &mut [u8]) {
+fn outcome_calls(rt: &HostRuntime, block: &mut [u8]) {
     let mut size: usize = 0;
     let mut k: u64 = 0;
     let mut turns: u64 = 0;
     while turns < u64::MAX {
-        match turn(k, block, size) {
+        match turn(rt, k, block, size) {
             Effect::End => return,
             Effect::Lent(n) => size = n,
             Effect::Called => k += 1,
@@ -136,7 +142,7 @@ fn outcome_calls(block: &mut [u8]) {
     }
 }
 
-fn main() {
+fn main(rt: HostRuntime) {
     let mut block = [0u8; calls::TEST];
-    outcome_calls(&mut block);
+    outcome_calls(&rt, &mut block);
 }

@@ -11,14 +11,14 @@ const MOST_BYTES: usize = MOST_BLOCKS * EditionOne::BLOCK;
 // The last block whose first byte has a number that a usize holds.
 const LAST: usize = usize::MAX / EditionOne::BLOCK;
 
-fn part(suite: &[u8], k: usize) {
+fn part(rt: &HostRuntime, suite: &[u8], k: usize) {
     let bytes = suite_part::block(suite, k);
-    let begun = Line::output().number(k as u64);
+    let begun = Line::output(rt).number(k as u64);
     if bytes.len() == 0 {
-        begun.text(b": not in the suite").end();
+        let _ = begun.text(b": not in the suite").end();
         return;
     }
-    begun
+    let _ = begun
         .text(b": ")
         .number(bytes.len() as u64)
         .text(b" bytes, from")
@@ -28,23 +28,23 @@ fn part(suite: &[u8], k: usize) {
         .end();
 }
 
-fn parts(suite: &[u8]) {
+fn parts(rt: &HostRuntime, suite: &[u8]) {
     let n = suite_part::blocks(suite);
-    Line::output().number(n as u64).text(b" blocks").end();
+    let _ = Line::output(rt).number(n as u64).text(b" blocks").end();
     let mut k: usize = 0;
     while k < MOST_BLOCKS {
-        part(suite, k);
+        part(rt, suite, k);
         k += 1;
     }
-    part(suite, LAST);
-    part(suite, LAST + 1);
-    part(suite, usize::MAX);
+    part(rt, suite, LAST);
+    part(rt, suite, LAST + 1);
+    part(rt, suite, usize::MAX);
 }
 
-fn main() {
+fn main(rt: HostRuntime) {
     let mut buffer = [0u8; MOST_BYTES];
-    match console::fill(&mut buffer) {
-        Filled::Failed => console::input_failed(b"parts"),
-        Filled::Bytes(n) => parts(console::front(&buffer, n)),
+    match console::fill(&rt, &mut buffer) {
+        Filled::Failed(e) => console::input_failed(&rt, b"parts", e),
+        Filled::Bytes(n) => parts(&rt, console::front(&buffer, n)),
     }
 }

@@ -5,8 +5,8 @@ use console::Input;
 use refusals::Refusal;
 
 // What reading frame k gives.
-fn line(k: u64, s: &[u8]) {
-    let begun = calls::begin(k);
+fn line(rt: &HostRuntime, k: u64, s: &[u8]) {
+    let begun = calls::begin(rt, k);
     let reading = block::read(s);
     let refusal = reading.refusal;
     let t = reading.table;
@@ -15,32 +15,32 @@ fn line(k: u64, s: &[u8]) {
         Refusal::Line(_) => words::refused(begun, refusal),
         Refusal::Record(_, _) => words::refused(begun, refusal),
     };
-    said.end();
+    let _ = said.end();
 }
 
 // The next n bytes of the input are frame k.
-fn frame(k: u64, n: usize, buffer: &mut [u8]) {
-    let got = console::read(buffer, n);
-    line(k, console::front(buffer, got));
+fn frame(rt: &HostRuntime, k: u64, n: usize, buffer: &mut [u8]) {
+    let got = console::read(rt, buffer, n);
+    line(rt, k, console::front(buffer, got));
 }
 
 // One frame; false at the end of the input.
-fn turn(k: u64) -> bool {
-    let low = console::byte();
+fn turn(rt: &HostRuntime, k: u64) -> bool {
+    let low = console::byte(rt);
     match low {
         Input::End => false,
         Input::Byte(b) => {
-            let n = console::wide(b) % 256 + 256 * (console::byte_or_zero() % 256);
+            let n = console::wide(b) % 256 + 256 * (console::byte_or_zero(rt) % 256);
             let mut buffer = [0u8; calls::TEST];
-            frame(k, n as usize, &mut buffer);
+            frame(rt, k, n as usize, &mut buffer);
             true
         }
     }
 }
 
-fn main() {
+fn main(rt: HostRuntime) {
     let mut k: u64 = 0;
-    while k < u64::MAX && turn(k) {
+    while k < u64::MAX && turn(&rt, k) {
         k += 1;
     }
 }

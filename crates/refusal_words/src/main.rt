@@ -6,15 +6,15 @@ use console::Line;
 // The number of the last refusal.
 const LAST: u8 = 24;
 
-fn row(n: u8) {
-    let begun = Line::output().number(console::wide(n)).text(b"\t");
-    words::sentence(begun, n).end();
+fn row(rt: &HostRuntime, n: u8) {
+    let begun = Line::output(rt).number(console::wide(n)).text(b"\t");
+    let _ = words::sentence(begun, n).end();
 }
 
-fn main() {
+fn main(rt: HostRuntime) {
     let mut n: u8 = 1;
     while n <= LAST {
-        row(n);
+        row(&rt, n);
         n += 1;
     }
 }

@@ -19,47 +19,47 @@ fn taken(line: Line, event: u8, entry: u8) -> Line {
     line.item(b"taken, event ", event).item(b", entry ", entry)
 }
 
-fn step(k: u64, block: &[u8], steps: &[u8]) {
-    let number = calls::number();
-    let line = calls::begin(k);
+fn step(rt: &HostRuntime, k: u64, block: &[u8], steps: &[u8]) {
+    let number = calls::number(rt);
+    let line = calls::begin(rt, k);
     let said = match bench::step(block, steps, number) {
         StepReply::Refused(r) => words::refused(line, r),
         StepReply::Taken { event, entry } => taken(line, event, entry),
     };
-    said.end();
+    let _ = said.end();
 }
 
-fn read_step(k: u64, block: &[u8]) {
+fn read_step(rt: &HostRuntime, k: u64, block: &[u8]) {
     let mut steps = [0u8; calls::LIST];
-    let n = calls::list(&mut steps);
-    step(k, block, console::front(&steps, n));
+    let n = calls::list(rt, &mut steps);
+    step(rt, k, block, console::front(&steps, n));
 }
 
-fn call(tag: u8, k: u64, block: &mut [u8], size: usize) -> Effect {
+fn call(rt: &HostRuntime, tag: u8, k: u64, block: &mut [u8], size: usize) -> Effect {
     if tag == calls::LEND {
-        return Effect::Lent(calls::frame(block));
+        return Effect::Lent(calls::frame(rt, block));
     }
     if tag == STEP {
-        read_step(k, console::front(block, size));
+        read_step(rt, k, console::front(block, size));
         return Effect::Called;
     }
     Effect::End
 }
 
-fn turn(k: u64, block: &mut [u8], size: usize) -> Effect {
-    match console::byte() {
-        Input::Byte(tag) => call(tag, k, block, size),
+fn turn(rt: &HostRuntime, k: u64, block: &mut [u8], size: usize) -> Effect {
+    match console::byte(rt) {
+        Input::Byte(tag) => call(rt, tag, k, block, size),
         Input::End => Effect::End,
     }
 }
 
 // The bound makes the loop end for the proof: nothing says that input does.
-fn runs(block: &mut [u8]) {
+fn runs(rt: &HostRuntime, block: &mut [u8]) {
     let mut size: usize = 0;
     let mut k: u64 = 0;
     let mut turns: u64 = 0;
     while turns < u64::MAX {
-        match turn(k, block, size) {
+        match turn(rt, k, block, size) {
             Effect::End => return,
             Effect::Lent(n) => size = n,
             Effect::Called => k += 1,
@@ -68,7 +68,7 @@ fn runs(block: &mut [u8]) {
     }
 }
 
-fn main() {
+fn main(rt: HostRuntime) {
     let mut block = [0u8; calls::TEST];
-    runs(&mut block);
+    runs(&rt, &mut block);
 }

@@ -23,7 +23,7 @@ holds_on held n before mid after (Bytes m) l h k = (
   omega (arith, l, k.1),
   sym (take-take held n after h.0) ∙ ap (take held) k.2 ∙ take-take held n mid h.0 ∙ h.2,
 )
-holds_on held n before mid after Failed l h k = tt
+holds_on held n before mid after (Failed e) l h k = tt
 
 -- A turn passed the first test of what was gathered.
 pub turned : (held n : ℕ) (before mid after : List ℕ) (step : Step) → length mid ≡ length before → Holds held before mid (Bytes n)

@@ -16,18 +16,18 @@ pub struct Step {
 
 // Reads on until a block is held, and three where an edition 2 test begins, as far as the input goes: an edition 1 test waits for
 // no more than itself.
-pub fn gather(buffer: &mut [u8], held: usize) -> Filled
+pub fn gather(rt: &HostRuntime, buffer: &mut [u8], held: usize) -> Filled
     requires held_in_bounds { held ≤ length buffer.old }
     requires two_in_bounds { test_length two ≤ length buffer.old }
     ensures { Holds held buffer.old buffer.new result }
 {
-    match console::fill_to(buffer, held, EditionOne::BLOCK) {
-        Filled::Failed => Filled::Failed,
+    match console::fill_to(rt, buffer, held, EditionOne::BLOCK) {
+        Filled::Failed(e) => Filled::Failed(e),
         Filled::Bytes(n) => {
             if n < EditionOne::BLOCK {
                 Filled::Bytes(n)
             } else if suite_walk::begins_two(&buffer[..EditionOne::BLOCK]) {
-                console::fill_to(buffer, n, EditionTwo::TEST)
+                console::fill_to(rt, buffer, n, EditionTwo::TEST)
             } else {
                 Filled::Bytes(n)
             }

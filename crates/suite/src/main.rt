@@ -54,30 +54,32 @@ fn replied(line: Line, reply: Reply, answer: &[u8]) -> Line
 }
 
 // The line of the test that begins at block k, before it ends. No order is longer than the answer buffer.
-fn decided(k: u64, test: &[u8], answer: &mut [u8]) -> Line
+fn decided(rt: &HostRuntime, k: u64, test: &[u8], answer: &mut [u8]) -> Line
     requires { answer.old ≡ no_answer }
     ensures { kept result ≡ suite_line k test.now }
 {
     let reply = bench::search(test, b"", answer, ALLOWANCE);
-    let begun = Line::output().text(b"block ").number(k).text(b": ");
+    let begun = Line::output(rt).text(b"block ").number(k).text(b": ");
     replied(begun, reply, answer)
 }
 
 // The line of the first test of the bytes held.
-fn first_line(k: u64, held: &[u8]) -> Line
+fn first_line(rt: &HostRuntime, k: u64, held: &[u8]) -> Line
     ensures { kept result ≡ suite_line k (test_of held.now 0) }
 {
     let mut answer = [0u8; EditionTwo::EVENTS];
-    decided(k, suite_walk::test(held, 0), &mut answer)
+    decided(rt, k, suite_walk::test(held, 0), &mut answer)
 }
 
 // Writes it; false if it was lost, which standard error then says.
-fn line(k: u64, held: &[u8]) -> bool {
-    let written = first_line(k, held).end();
-    if !written {
-        console::output_failed(b"suite");
+fn line(rt: &HostRuntime, k: u64, held: &[u8]) -> bool {
+    match first_line(rt, k, held).end() {
+        Ok(()) => true,
+        Err(e) => {
+            console::output_failed(rt, b"suite", e);
+            false
+        }
     }
-    written
 }
 
 // What a turn did. Of a failure standard error was told.
@@ -89,20 +91,20 @@ pub enum Effect {
 }
 
 // The test that begins at block k.
-fn turn(k: u64, buffer: &mut [u8], held: usize) -> Effect
+fn turn(rt: &HostRuntime, k: u64, buffer: &mut [u8], held: usize) -> Effect
     requires held_in_bounds { held ≤ length buffer.old }
     requires two_in_bounds { test_length two ≤ length buffer.old }
     ensures { Turned held buffer.old buffer.new result }
 {
-    match held::gather(buffer, held) {
-        Filled::Failed => {
-            console::input_failed(b"suite");
+    match held::gather(rt, buffer, held) {
+        Filled::Failed(e) => {
+            console::input_failed(rt, b"suite", e);
             Effect::Failed
         }
         Filled::Bytes(n) => {
             if n == 0 {
                 Effect::NoMore
-            } else if line(k, &buffer[..n]) {
+            } else if line(rt, k, &buffer[..n]) {
                 Effect::Passed(held::pass(buffer, n))
             } else {
                 Effect::Failed
@@ -112,27 +114,27 @@ fn turn(k: u64, buffer: &mut [u8], held: usize) -> Effect
 }
 
 // After n tests.
-fn closing(n: u64) -> Line
+fn closing(rt: &HostRuntime, n: u64) -> Line
     ensures { kept result ≡ closing_line n }
 {
-    Line::output().number(n).text(b" blocks")
+    Line::output(rt).number(n).text(b" blocks")
 }
 
-fn last(n: u64) {
-    if !closing(n).end() {
-        console::output_failed(b"suite");
+fn last(rt: &HostRuntime, n: u64) {
+    if let Err(e) = closing(rt, n).end() {
+        console::output_failed(rt, b"suite", e);
     }
 }
 
 // The bound makes the loop end for the proof: nothing says that input does.
-fn turns(buffer: &mut [u8])
+fn turns(rt: &HostRuntime, buffer: &mut [u8])
     requires { test_length two ≤ length buffer.old }
 {
     let mut held: usize = 0;
     let mut block: u64 = 0;
     let mut tests: u64 = 0;
     while tests < MOST_TESTS {
-        match turn(block, buffer, held) {
+        match turn(rt, block, buffer, held) {
             Effect::Passed(step) => {
                 held = step.held;
                 block += step.blocks as u64;
@@ -142,16 +144,17 @@ fn turns(buffer: &mut [u8])
             Effect::Failed => return,
         }
     }
-    last(tests);
+    last(rt, tests);
 }
 
-fn suite() {
+fn suite(rt: &HostRuntime) {
     let mut buffer = [0u8; EditionTwo::TEST];
-    turns(&mut buffer);
+    turns(rt, &mut buffer);
 }
 
-fn usage() {
+fn usage(rt: &HostRuntime) {
     let printed = console::print(
+        rt,
         b"\
 suite: whether the RISC-V memory model allows the stated outcome of each of many tests
 
@@ -164,15 +167,15 @@ that gives the outcome, by event numbers; 'forbidden'; 'undecided', if 1,000,000
 is missing if reading or writing failed, which standard error then says.
 ",
     );
-    if !printed {
-        console::output_failed(b"suite");
+    if let Err(e) = printed {
+        console::output_failed(rt, b"suite", e);
     }
 }
 
-fn main() {
-    match console::asked() {
-        Command::Run => suite(),
-        Command::Help => usage(),
-        Command::Unknown => console::unknown_argument(b"suite"),
+fn main(rt: HostRuntime) {
+    match console::asked(&rt) {
+        Command::Run => suite(&rt),
+        Command::Help => usage(&rt),
+        Command::Unknown => console::unknown_argument(&rt, b"suite"),
     }
 }

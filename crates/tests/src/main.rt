@@ -50,50 +50,50 @@ fn tests(line: Line, suite: &[u8]) -> Line {
     said.number(count as u64).text(b" tests")
 }
 
-fn walk(n: u64, suite: &[u8]) {
-    let length = console::word() as usize;
-    tests(calls::begin(n), console::front(suite, length)).end();
+fn walk(rt: &HostRuntime, n: u64, suite: &[u8]) {
+    let length = console::word(rt) as usize;
+    let _ = tests(calls::begin(rt, n), console::front(suite, length)).end();
 }
 
-fn ask(n: u64, suite: &[u8]) {
-    let k = calls::number() as usize;
-    calls::begin(n)
+fn ask(rt: &HostRuntime, n: u64, suite: &[u8]) {
+    let k = calls::number(rt) as usize;
+    let _ = calls::begin(rt, n)
         .number(suite_walk::test_length(suite, k) as u64)
         .text(b" bytes, next ")
         .number(suite_walk::next(suite, k) as u64)
         .end();
 }
 
-fn call(tag: u8, n: u64, buffer: &mut [u8], size: usize) -> Effect {
+fn call(rt: &HostRuntime, tag: u8, n: u64, buffer: &mut [u8], size: usize) -> Effect {
     if tag == calls::LEND {
-        return Effect::Lent(calls::frame(buffer));
+        return Effect::Lent(calls::frame(rt, buffer));
     }
     let suite = console::front(buffer, size);
     if tag == WALK {
-        walk(n, suite);
+        walk(rt, n, suite);
         return Effect::Called;
     }
     if tag == BLOCK {
-        ask(n, suite);
+        ask(rt, n, suite);
         return Effect::Called;
     }
     Effect::End
 }
 
-fn turn(n: u64, buffer: &mut [u8], size: usize) -> Effect {
-    match console::byte() {
-        Input::Byte(tag) => call(tag, n, buffer, size),
+fn turn(rt: &HostRuntime, n: u64, buffer: &mut [u8], size: usize) -> Effect {
+    match console::byte(rt) {
+        Input::Byte(tag) => call(rt, tag, n, buffer, size),
         Input::End => Effect::End,
     }
 }
 
 // The bound makes the loop end for the proof: nothing says that input does.
-fn turns(buffer: &mut [u8]) {
+fn turns(rt: &HostRuntime, buffer: &mut [u8]) {
     let mut size: usize = 0;
     let mut n: u64 = 0;
     let mut count: u64 = 0;
     while count < u64::MAX {
-        match turn(n, buffer, size) {
+        match turn(rt, n, buffer, size) {
             Effect::End => return,
             Effect::Lent(length) => size = length,
             Effect::Called => n += 1,
@@ -102,7 +102,7 @@ fn turns(buffer: &mut [u8]) {
     }
 }
 
-fn main() {
+fn main(rt: HostRuntime) {
     let mut buffer = [0u8; MOST_BYTES];
-    turns(&mut buffer);
+    turns(&rt, &mut buffer);
 }

@@ -26,8 +26,8 @@ enum Effect {
 }
 
 // What reading gives: the table, or the refusal.
-fn read(k: u64, text: &[u8]) {
-    let begun = calls::begin(k);
+fn read(rt: &HostRuntime, k: u64, text: &[u8]) {
+    let begun = calls::begin(rt, k);
     let test = bench::read_text(text);
     let refusal = test.refusal;
     let t = test.table;
@@ -39,7 +39,7 @@ fn read(k: u64, text: &[u8]) {
             Refusal::Record(_, _) => words::refused(begun, line),
         },
     };
-    said.end();
+    let _ = said.end();
 }
 
 fn searched(line: Line, reply: Reply) -> Line {
@@ -49,8 +49,8 @@ fn searched(line: Line, reply: Reply) -> Line {
     }
 }
 
-fn line(k: u64, reply: TextReply, answer: &[u8]) {
-    let begun = calls::begin(k);
+fn line(rt: &HostRuntime, k: u64, reply: TextReply, answer: &[u8]) {
+    let begun = calls::begin(rt, k);
     let said = match reply {
         TextReply::Illegal { number, place } => words::refused_at(begun, number, place),
         TextReply::Searched(r) => searched(begun, r),
@@ -58,24 +58,31 @@ fn line(k: u64, reply: TextReply, answer: &[u8]) {
     calls::end(said, answer);
 }
 
-fn search(k: u64, text: &[u8], start: &[u8], answer: &mut [u8]) -> TextReply {
-    let allowance = calls::number();
+fn search(rt: &HostRuntime, k: u64, text: &[u8], start: &[u8], answer: &mut [u8]) -> TextReply {
+    let allowance = calls::number(rt);
     let reply = bench::search_text(text, start, answer, allowance);
-    line(k, reply, answer);
+    line(rt, k, reply, answer);
     reply
 }
 
-fn single(k: u64, text: &[u8]) {
+fn single(rt: &HostRuntime, k: u64, text: &[u8]) {
     let mut start = [0u8; calls::LIST];
-    let n = calls::list(&mut start);
+    let n = calls::list(rt, &mut start);
     let mut answer = [calls::PREFILL; calls::LIST];
-    let size = calls::length();
-    search(k, text, console::front(&start, n), &mut answer[..size]);
+    let size = calls::length(rt);
+    search(rt, k, text, console::front(&start, n), &mut answer[..size]);
 }
 
 // The next call of the walk; answers the length of its next start.
-fn advance(k: u64, text: &[u8], start: &mut [u8], len: usize, answer: &mut [u8]) -> usize {
-    match search(k, text, console::front(start, len), answer) {
+fn advance(
+    rt: &HostRuntime,
+    k: u64,
+    text: &[u8],
+    start: &mut [u8],
+    len: usize,
+    answer: &mut [u8],
+) -> usize {
+    match search(rt, k, text, console::front(start, len), answer) {
         TextReply::Illegal {
             number: _,
             place: _,
@@ -87,46 +94,61 @@ fn advance(k: u64, text: &[u8], start: &mut [u8], len: usize, answer: &mut [u8])
     }
 }
 
-fn walk(k: u64, text: &[u8], start: &mut [u8], len: usize) -> usize {
+fn walk(rt: &HostRuntime, k: u64, text: &[u8], start: &mut [u8], len: usize) -> usize {
     let mut answer = [calls::PREFILL; calls::LIST];
-    let size = calls::length();
-    advance(k, text, start, len, &mut answer[..size])
+    let size = calls::length(rt);
+    advance(rt, k, text, start, len, &mut answer[..size])
 }
 
-fn call(tag: u8, k: u64, text: &mut [u8], size: usize, start: &mut [u8], len: usize) -> Effect {
+fn call(
+    rt: &HostRuntime,
+    tag: u8,
+    k: u64,
+    text: &mut [u8],
+    size: usize,
+    start: &mut [u8],
+    len: usize,
+) -> Effect {
     if tag == calls::LEND {
-        return Effect::Lent(calls::frame(text));
+        return Effect::Lent(calls::frame(rt, text));
     }
     let bytes = console::front(text, size);
     if tag == READ {
-        read(k, bytes);
+        read(rt, k, bytes);
         return Effect::Called(len);
     }
     if tag == SEARCH {
-        single(k, bytes);
+        single(rt, k, bytes);
         return Effect::Called(len);
     }
     if tag == WALK {
-        return Effect::Called(walk(k, bytes, start, len));
+        return Effect::Called(walk(rt, k, bytes, start, len));
     }
     Effect::End
 }
 
-fn turn(k: u64, text: &mut [u8], size: usize, start: &mut [u8], len: usize) -> Effect {
-    match console::byte() {
-        Input::Byte(tag) => call(tag, k, text, size, start, len),
+fn turn(
+    rt: &HostRuntime,
+    k: u64,
+    text: &mut [u8],
+    size: usize,
+    start: &mut [u8],
+    len: usize,
+) -> Effect {
+    match console::byte(rt) {
+        Input::Byte(tag) => call(rt, tag, k, text, size, start, len),
         Input::End => Effect::End,
     }
 }
 
 // The bound makes the loop end for the proof: nothing says that input does.
-fn texts(text: &mut [u8], start: &mut [u8]) {
+fn texts(rt: &HostRuntime, text: &mut [u8], start: &mut [u8]) {
     let mut size: usize = 0;
     let mut len: usize = 0;
     let mut k: u64 = 0;
     let mut turns: u64 = 0;
     while turns < u64::MAX {
-        match turn(k, text, size, start, len) {
+        match turn(rt, k, text, size, start, len) {
             Effect::End => return,
             Effect::Lent(n) => {
                 size = n;
@@ -141,8 +163,8 @@ fn texts(text: &mut [u8], start: &mut [u8]) {
     }
 }
 
-fn main() {
+fn main(rt: HostRuntime) {
     let mut text = [0u8; TEXT];
     let mut start = [0u8; calls::LIST];
-    texts(&mut text, &mut start);
+    texts(&rt, &mut text, &mut start);
 }

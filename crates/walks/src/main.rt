@@ -21,8 +21,8 @@ enum Effect {
     Called(usize),
 }
 
-fn line(k: u64, reply: Reply, answer: &[u8]) {
-    let begun = calls::begin(k);
+fn line(rt: &HostRuntime, k: u64, reply: Reply, answer: &[u8]) {
+    let begun = calls::begin(rt, k);
     let said = match reply {
         Reply::Refused(r) => words::refused(begun, r),
         Reply::Answered(o) => search_line::ended(begun, o),
@@ -38,19 +38,27 @@ fn searched(pruned: bool, block: &[u8], start: &[u8], answer: &mut [u8], allowan
     bench::search(block, start, answer, allowance)
 }
 
-fn search(k: u64, pruned: bool, block: &[u8], start: &[u8], answer: &mut [u8]) -> Reply {
-    let allowance = calls::number();
+fn search(
+    rt: &HostRuntime,
+    k: u64,
+    pruned: bool,
+    block: &[u8],
+    start: &[u8],
+    answer: &mut [u8],
+) -> Reply {
+    let allowance = calls::number(rt);
     let reply = searched(pruned, block, start, answer, allowance);
-    line(k, reply, answer);
+    line(rt, k, reply, answer);
     reply
 }
 
-fn single(k: u64, pruned: bool, block: &[u8]) {
+fn single(rt: &HostRuntime, k: u64, pruned: bool, block: &[u8]) {
     let mut start = [0u8; calls::LIST];
-    let n = calls::list(&mut start);
+    let n = calls::list(rt, &mut start);
     let mut answer = [calls::PREFILL; calls::LIST];
-    let size = calls::length();
+    let size = calls::length(rt);
     search(
+        rt,
         k,
         pruned,
         block,
@@ -61,6 +69,7 @@ fn single(k: u64, pruned: bool, block: &[u8]) {
 
 // The next call of the walk; answers the length of its next start.
 fn advance(
+    rt: &HostRuntime,
     k: u64,
     pruned: bool,
     block: &[u8],
@@ -68,49 +77,71 @@ fn advance(
     len: usize,
     answer: &mut [u8],
 ) -> usize {
-    match search(k, pruned, block, console::front(start, len), answer) {
+    match search(rt, k, pruned, block, console::front(start, len), answer) {
         Reply::Refused(_) => len,
         Reply::Answered(o) => search_line::next_start(o, answer, start, len),
     }
 }
 
-fn walk(k: u64, pruned: bool, block: &[u8], start: &mut [u8], len: usize) -> usize {
+fn walk(
+    rt: &HostRuntime,
+    k: u64,
+    pruned: bool,
+    block: &[u8],
+    start: &mut [u8],
+    len: usize,
+) -> usize {
     let mut answer = [calls::PREFILL; calls::LIST];
-    let size = calls::length();
-    advance(k, pruned, block, start, len, &mut answer[..size])
+    let size = calls::length(rt);
+    advance(rt, k, pruned, block, start, len, &mut answer[..size])
 }
 
-fn call(tag: u8, k: u64, block: &mut [u8], size: usize, start: &mut [u8], len: usize) -> Effect {
+fn call(
+    rt: &HostRuntime,
+    tag: u8,
+    k: u64,
+    block: &mut [u8],
+    size: usize,
+    start: &mut [u8],
+    len: usize,
+) -> Effect {
     if tag == calls::LEND {
-        return Effect::Lent(calls::frame(block));
+        return Effect::Lent(calls::frame(rt, block));
     }
     let bytes = console::front(block, size);
     let pruned = (tag == PRUNED_SEARCH) | (tag == PRUNED_WALK);
     if (tag == SEARCH) | (tag == PRUNED_SEARCH) {
-        single(k, pruned, bytes);
+        single(rt, k, pruned, bytes);
         return Effect::Called(len);
     }
     if (tag == WALK) | (tag == PRUNED_WALK) {
-        return Effect::Called(walk(k, pruned, bytes, start, len));
+        return Effect::Called(walk(rt, k, pruned, bytes, start, len));
     }
     Effect::End
 }
 
-fn turn(k: u64, block: &mut [u8], size: usize, start: &mut [u8], len: usize) -> Effect {
-    match console::byte() {
-        Input::Byte(tag) => call(tag, k, block, size, start, len),
+fn turn(
+    rt: &HostRuntime,
+    k: u64,
+    block: &mut [u8],
+    size: usize,
+    start: &mut [u8],
+    len: usize,
+) -> Effect {
+    match console::byte(rt) {
+        Input::Byte(tag) => call(rt, tag, k, block, size, start, len),
         Input::End => Effect::End,
     }
 }
 
 // The bound makes the loop end for the proof: nothing says that input does.
-fn walks(block: &mut [u8], start: &mut [u8]) {
+fn walks(rt: &HostRuntime, block: &mut [u8], start: &mut [u8]) {
     let mut size: usize = 0;
     let mut len: usize = 0;
     let mut k: u64 = 0;
     let mut turns: u64 = 0;
     while turns < u64::MAX {
-        match turn(k, block, size, start, len) {
+        match turn(rt, k, block, size, start, len) {
             Effect::End => return,
             Effect::Lent(n) => {
                 size = n;
@@ -125,8 +156,8 @@ fn walks(block: &mut [u8], start: &mut [u8]) {
     }
 }
 
-fn main() {
+fn main(rt: HostRuntime) {
     let mut block = [0u8; calls::TEST];
     let mut start = [0u8; calls::LIST];
-    walks(&mut block, &mut start);
+    walks(&rt, &mut block, &mut start);
 }

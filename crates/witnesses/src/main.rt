@@ -4,6 +4,7 @@
 use console::{Command, Filled, Line};
 use edition::EditionTwo;
 use search::Reply;
+use std::io::{Error, Result};
 use witness_walk::Ending;
 
 // How many prefixes a call may visit. A progress line is written when they are spent.
@@ -24,11 +25,12 @@ struct Walk {
     witnesses: u64,
     visited: u64,
     ended: bool,
-    lost: bool,
+    lost: Option<Error>,
 }
 
-fn usage() {
+fn usage(rt: &HostRuntime) {
     let printed = console::print(
+        rt,
         b"\
 witnesses: all global memory orders that give the stated outcome of a test
 
@@ -40,8 +42,8 @@ the number of witnesses and that of the prefixes visited: it is missing if readi
 then says. During long walks lines on standard error say how far the walk is.
 ",
     );
-    if !printed {
-        console::output_failed(b"witnesses");
+    if let Err(e) = printed {
+        console::output_failed(rt, b"witnesses", e);
     }
 }
 
@@ -72,12 +74,12 @@ fn returned(line: Line, list: [u8; LIST]) -> Line {
     filled
 }
 
-fn witness(test: &[u8], walk: Walk) -> bool {
+fn witness(rt: &HostRuntime, test: &[u8], walk: Walk) -> Result<()> {
     let prefix = walk.prefix;
     let order = console::front(&prefix, walk.len);
     let mut list = [reads_from::NOTHING; LIST];
     bench::returns(test, order, &mut list);
-    let begun = Line::output()
+    let begun = Line::output(rt)
         .text(b"witness ")
         .number(walk.witnesses)
         .text(b": order")
@@ -85,10 +87,10 @@ fn witness(test: &[u8], walk: Walk) -> bool {
     returned(begun, list).end()
 }
 
-fn progress(walk: Walk) {
+fn progress(rt: &HostRuntime, walk: Walk) {
     let prefix = walk.prefix;
     let entries = console::front(&prefix, walk.len);
-    Line::error()
+    let _ = Line::error(rt)
         .number(walk.visited)
         .text(b" visited, ")
         .number(walk.witnesses)
@@ -97,13 +99,13 @@ fn progress(walk: Walk) {
         .end();
 }
 
-fn last(walk: Walk) -> bool {
+fn last(rt: &HostRuntime, walk: Walk) -> Result<()> {
     let begun = if walk.witnesses == 0 {
-        Line::output().text(b"no witness: forbidden")
+        Line::output(rt).text(b"no witness: forbidden")
     } else if walk.witnesses == 1 {
-        Line::output().text(b"1 witness")
+        Line::output(rt).text(b"1 witness")
     } else {
-        Line::output().number(walk.witnesses).text(b" witnesses")
+        Line::output(rt).number(walk.witnesses).text(b" witnesses")
     };
     begun
         .text(b", ")
@@ -113,7 +115,7 @@ fn last(walk: Walk) -> bool {
 }
 
 // What the walk is after a call that answered; and its line.
-fn answered(test: &[u8], walk: Walk, ending: Ending, answer: [u8; LIST]) -> Walk {
+fn answered(rt: &HostRuntime, test: &[u8], walk: Walk, ending: Ending, answer: [u8; LIST]) -> Walk {
     let mut next = walk;
     match ending {
         Ending::Found { len, visited } => {
@@ -121,26 +123,26 @@ fn answered(test: &[u8], walk: Walk, ending: Ending, answer: [u8; LIST]) -> Walk
             next.len = len;
             next.witnesses = sum(walk.witnesses, 1);
             next.visited = sum(walk.visited, visited);
-            next.lost = !witness(test, next);
-            next.ended = next.lost;
+            next.lost = witness(rt, test, next).err();
+            next.ended = next.lost.is_some();
         }
         Ending::NoneLeft { visited } => {
             next.visited = sum(walk.visited, visited);
             next.ended = true;
-            next.lost = !last(next);
+            next.lost = last(rt, next).err();
         }
         Ending::Spent { len, visited } => {
             next.prefix = answer;
             next.len = len;
             next.visited = sum(walk.visited, visited);
-            progress(next);
+            progress(rt, next);
         }
     }
     next
 }
 
 // The next call of the walk.
-fn call(test: &[u8], walk: Walk) -> Walk {
+fn call(rt: &HostRuntime, test: &[u8], walk: Walk) -> Walk {
     let start = walk.prefix;
     let len = walk.len;
     let mut answer = [0u8; LIST];
@@ -148,49 +150,52 @@ fn call(test: &[u8], walk: Walk) -> Walk {
         Reply::Refused(r) => {
             let mut ended = walk;
             ended.ended = true;
-            ended.lost = !words::explained(Line::output(), r).end();
+            ended.lost = words::explained(Line::output(rt), r).end().err();
             ended
         }
-        Reply::Answered(o) => answered(test, walk, o, answer),
+        Reply::Answered(o) => answered(rt, test, walk, o, answer),
     }
 }
 
-// False if a line was lost. The bound makes the loop end for the proof.
-fn walk_all(test: &[u8]) -> bool {
+// An error if a line was lost. The bound makes the loop end for the proof.
+fn walk_all(rt: &HostRuntime, test: &[u8]) -> Result<()> {
     let mut walk = Walk {
         prefix: [0; LIST],
         len: 0,
         witnesses: 0,
         visited: 0,
         ended: false,
-        lost: false,
+        lost: None,
     };
     let mut calls: u64 = 0;
     while calls < u64::MAX && !walk.ended {
-        walk = call(test, walk);
+        walk = call(rt, test, walk);
         calls += 1;
     }
-    !walk.lost
+    match walk.lost {
+        Some(e) => Err(e),
+        None => Ok(()),
+    }
 }
 
-fn witnesses() {
+fn witnesses(rt: &HostRuntime) {
     let mut buffer = [0u8; INPUT];
-    match console::fill(&mut buffer) {
-        Filled::Failed => console::input_failed(b"witnesses"),
+    match console::fill(rt, &mut buffer) {
+        Filled::Failed(e) => console::input_failed(rt, b"witnesses", e),
         Filled::Bytes(n) => {
             if n == 0 {
-                usage();
-            } else if !walk_all(console::front(&buffer, n)) {
-                console::output_failed(b"witnesses");
+                usage(rt);
+            } else if let Err(e) = walk_all(rt, console::front(&buffer, n)) {
+                console::output_failed(rt, b"witnesses", e);
             }
         }
     }
 }
 
-fn main() {
-    match console::asked() {
-        Command::Run => witnesses(),
-        Command::Help => usage(),
-        Command::Unknown => console::unknown_argument(b"witnesses"),
+fn main(rt: HostRuntime) {
+    match console::asked(&rt) {
+        Command::Run => witnesses(&rt),
+        Command::Help => usage(&rt),
+        Command::Unknown => console::unknown_argument(&rt, b"witnesses"),
     }
 }

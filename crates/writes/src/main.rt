@@ -14,73 +14,73 @@ const BYTES: u64 = 256;
 
 const WORDS: u64 = 65_536;
 
-fn small() -> u8 {
-    (console::byte_or_zero() % BYTES) as u8
+fn small(rt: &HostRuntime) -> u8 {
+    (console::byte_or_zero(rt) % BYTES) as u8
 }
 
-fn value() -> u16 {
-    console::word() as u16
+fn value(rt: &HostRuntime) -> u16 {
+    console::word(rt) as u16
 }
 
-fn mask() -> u32 {
-    let low = console::word();
-    let high = console::word();
+fn mask(rt: &HostRuntime) -> u32 {
+    let low = console::word(rt);
+    let high = console::word(rt);
     (low + WORDS * high) as u32
 }
 
-fn event() -> Event {
+fn event(rt: &HostRuntime) -> Event {
     Event {
-        kind: small(),
-        hart: small(),
-        location: LocationNo(small()),
-        flags: small(),
-        addr: mask(),
-        data: mask(),
-        ctrl: mask(),
-        read: value(),
-        written: value(),
-        operation: small(),
-        operand: small(),
+        kind: small(rt),
+        hart: small(rt),
+        location: LocationNo(small(rt)),
+        flags: small(rt),
+        addr: mask(rt),
+        data: mask(rt),
+        ctrl: mask(rt),
+        read: value(rt),
+        written: value(rt),
+        operation: small(rt),
+        operand: small(rt),
     }
 }
 
-fn events() -> [Event; CAPACITY] {
-    let first = event();
+fn events(rt: &HostRuntime) -> [Event; CAPACITY] {
+    let first = event(rt);
     let mut list = [first; CAPACITY];
     let mut k: usize = 1;
     while k < CAPACITY {
-        list[k] = event();
+        list[k] = event(rt);
         k += 1;
     }
     list
 }
 
-fn values() -> [u16; LOCATIONS] {
+fn values(rt: &HostRuntime) -> [u16; LOCATIONS] {
     let mut list = [0u16; LOCATIONS];
     let mut x: usize = 0;
     while x < LOCATIONS {
-        list[x] = value();
+        list[x] = value(rt);
         x += 1;
     }
     list
 }
 
 // A table whose first byte was read.
-fn table(harts: u8) -> Table {
+fn table(rt: &HostRuntime, harts: u8) -> Table {
     Table {
         harts: harts,
-        locations: small(),
-        count: small(),
-        stated: small(),
-        model: small(),
-        initial: values(),
-        events: events(),
-        finals: values(),
+        locations: small(rt),
+        count: small(rt),
+        stated: small(rt),
+        model: small(rt),
+        initial: values(rt),
+        events: events(rt),
+        finals: values(rt),
     }
 }
 
-fn line(k: u64, t: Table, out: &mut [u8]) {
-    let begun = calls::begin(k);
+fn line(rt: &HostRuntime, k: u64, t: Table, out: &mut [u8]) {
+    let begun = calls::begin(rt, k);
     let refusal = bench::write(t, out);
     let said = match refusal {
         Refusal::None => begun.text(b"written"),
@@ -91,29 +91,29 @@ fn line(k: u64, t: Table, out: &mut [u8]) {
 }
 
 // Lends the first n bytes of the buffer.
-fn lend(k: u64, t: Table, n: usize, buffer: &mut [u8]) {
+fn lend(rt: &HostRuntime, k: u64, t: Table, n: usize, buffer: &mut [u8]) {
     if n <= buffer.len() {
-        line(k, t, &mut buffer[..n]);
+        line(rt, k, t, &mut buffer[..n]);
     }
 }
 
 // One table; false at the end of the input.
-fn turn(k: u64) -> bool {
-    match console::byte() {
+fn turn(rt: &HostRuntime, k: u64) -> bool {
+    match console::byte(rt) {
         Input::End => false,
         Input::Byte(harts) => {
-            let t = table(harts);
-            let n = console::word() as usize;
+            let t = table(rt, harts);
+            let n = console::word(rt) as usize;
             let mut buffer = [calls::PREFILL; LONGEST];
-            lend(k, t, n, &mut buffer);
+            lend(rt, k, t, n, &mut buffer);
             true
         }
     }
 }
 
-fn main() {
+fn main(rt: HostRuntime) {
     let mut k: u64 = 0;
-    while k < u64::MAX && turn(k) {
+    while k < u64::MAX && turn(&rt, k) {
         k += 1;
     }
 }

@@ -8,7 +8,9 @@ decision_word-requires c = let d = c.decide_with in
 
 pub returns : goal.returns
 returns c = let d = c.decide_with in
-    let e = c.decide_with.ensures in (
-      c.decision_word.ensures ∙ decision-word _ _ _ _ d.result e.out_after e.result_value,
-      (e.out_after_2, memo-left _ _ _ _ d.result e.out_after e.result_value _ _ e.memo_after),
-    )
+    let e = c.decide_with.ensures in
+    record {
+      value = c.decision_word.ensures ∙ decision-word _ _ _ _ d.result e.out_after e.result_value;
+      out_after = e.out_after_2;
+      memo_left = memo-left _ _ _ _ d.result e.out_after e.result_value _ _ e.memo_after;
+    }

@@ -6,7 +6,9 @@ use Rattle.outcome_listing.proofs.DeliverLaws.{none-delivered, over-delivered, r
 use Rattle.outcome_listing.proofs.deliver.Goals as goal
 
 pub returns-then-n-eq0 : goal.returns-then-n-eq0
-returns-then-n-eq0 c = none-delivered c.args.width _ _ c.args.gathered _ c.in-All.is c.if-n-eq0.true
+returns-then-n-eq0 c =
+    let w = none-delivered c.args.width c.args.kept.now c.args.out.now c.args.gathered _ c.in-All.is c.if-n-eq0.true in
+    record { out_after = w.0; out_after_2 = w.1.0; result_value = w.1.1 }
 
 pub overflow_mul-width : goal.overflow_mul-width
 overflow_mul-width c = let n = subst (Within _) c.in-All.is c.requires.0 in
@@ -21,8 +23,12 @@ overflow_cast-result c = let n = subst (Within _) c.in-All.is c.requires.0 in
     omega (arith, n)
 
 pub returns-in-Over : goal.returns-in-Over
-returns-in-Over c = over-delivered c.args.width _ _ c.args.gathered c.in-Over.is
+returns-in-Over c =
+    let w = over-delivered c.args.width c.args.kept.now c.args.out.now c.args.gathered c.in-Over.is in
+    record { out_after = w.0; out_after_2 = w.1.0; result_value = w.1.1 }
 
 pub returns-else-n-eq0 : goal.returns-else-n-eq0
-returns-else-n-eq0 c = rows-delivered c.args.width c.args.kept.now c.args.out.now c.args.gathered _ _ c.in-All.is c.if-n-eq0.false c.requires.1
-    c.copy_rows.ensures
+returns-else-n-eq0 c =
+    let w = rows-delivered c.args.width c.args.kept.now c.args.out.now c.args.gathered _ _ c.in-All.is c.if-n-eq0.false c.requires.1
+    c.copy_rows.ensures in
+    record { out_after = w.0; out_after_2 = w.1.0; result_value = w.1.1 }

@@ -1,54 +1,32 @@
-use Prim.Native.Nat.{ℕ, ◌≤◌}
+use Prim.Native.Nat.{◌≤◌}
 use native.Mathlib.Omega.{arith}
-use mathlib.Core.Path.{◌≡◌, refl, sym, subst, ◌∙◌}
+use mathlib.Core.Path.{refl, sym, subst, ◌∙◌}
 use lib.ListN.{take}
 use lib.Count.{ones-le}
-use Rattle.table.specs.Events.{memory_mask}
 use Rattle.successors.specs.CleanMasks.{slots}
 use Rattle.successors.specs.Waiting.{Prepared}
 use Rattle.witness_walk.specs.declared.Ending.TheVariants.{Found}
 use Rattle.witness_walk.specs.Running.{AtMost}
 use Rattle.witness_walk.proofs.FollowLaws.{holds-fitting}
-use Rattle.outcome_listing.specs.Gathering.{Walks, NextLawful}
-use Rattle.outcome_listing.proofs.StandLaws.{Stands, stands-first, stands-found, stands-end, stands-over, found_left, found-holds}
+use Rattle.outcome_listing.specs.Gathering.{NextLawful}
+use Rattle.outcome_listing.proofs.StandLaws.{stands-first, stands-found, stands-end, stands-over, found_left, found-holds}
 use Rattle.outcome_listing.proofs.gather.Goals as goal
 use Rattle.outcome_listing.proofs.gather.Goals.{In-Found}
 
 -- What is known once an order is found.
 module _ (d : In-Found) where
-  abbrev given : tie.Start invariant-loop decreases-loop
-  given = ?Start
-
-  abbrev mem : ℕ
-  mem = d.memory_mask-mem.result
-
-  abbrev len : ℕ
-  len = d.in-Found.len
-
-  abbrev visited : ℕ
-  visited = d.in-Found.visited
-
-  mem_is : mem ≡ memory_mask given.args.t
-  mem_is = d.memory_mask-mem.ensures
-
-  prepared : Prepared given.args.pred.now given.args.succ.now mem
-  prepared = subst (Prepared _ _) (sym mem_is) given.pre.0.1
+  prepared : Prepared d.args.pred.now d.args.succ.now d.memory_mask-mem.result
+  prepared = subst (Prepared _ _) (sym d.memory_mask-mem.ensures) d.requires.walks.1
 
   found : let v = d.loop-visited in
-      NextLawful given.args.facts.now given.args.pred.now mem (take v.from.keep v.order) v.left
-      d.next_lawful-ending.new.order (Found len visited)
-  found =
-      subst (NextLawful _ _ _ _ _ _) d.in-Found.is d.next_lawful-ending.ensures.next_lawful
+      NextLawful d.args.facts.now d.args.pred.now d.memory_mask-mem.result (take v.from.keep v.order) v.left
+      d.next_lawful-ending.new.order (Found d.in-Found.len d.in-Found.visited)
+  found = subst (NextLawful _ _ _ _ _ _) d.in-Found.is d.next_lawful-ending.ensures.next_lawful
 
-  short : len ≤ slots
+  short : d.in-Found.len ≤ slots
   short =
-      let a : AtMost _ (Found len visited) = subst (AtMost _) d.in-Found.is d.next_lawful-ending.ensures.order_len.1 in
-      omega (arith, a, ones-le 32 mem (omega (arith, prepared.small)))
-
-  module _ (w : Walks given.args.t given.args.facts.now given.args.pred.now) (m : mem ≡ memory_mask given.args.t) where
-    abbrev stands : let v = d.loop-visited in
-        Stands w m given.args.previous.now given.args.asked.room given.args.budget v.order v.from v.left v.n v.kept
-    stands = (d.loop-visited.inv w m).0
+      let a : AtMost _ (Found d.in-Found.len d.in-Found.visited) = subst (AtMost _) d.in-Found.is d.next_lawful-ending.ensures.order_len.1 in
+      omega (arith, a, ones-le 32 d.memory_mask-mem.result (omega (arith, prepared.small)))
 
 pub memory_mask-mem-requires : goal.memory_mask-mem-requires
 memory_mask-mem-requires c = omega (arith, c.requires.walks.0.known.table.small.events)
@@ -79,26 +57,26 @@ returns-in-Spent c = let m = c.memory_mask-mem.ensures in
     }
 
 pub overflow_sub-left : goal.overflow_sub-left
-overflow_sub-left c = let w = (given c).requires.0.0 in
-    (found_left w (mem_is c) _ _ _ (stands c w (mem_is c)) (len c) (visited c) _ (found c) c.next_lawful-ending.ensures.order_len.0 (short c)).1
+overflow_sub-left c = let w = c.requires.walks.0 in
+    (found_left w c.memory_mask-mem.ensures _ _ _ (c.loop-visited.invariant w c.memory_mask-mem.ensures).0 c.in-Found.len c.in-Found.visited _ (found c) c.next_lawful-ending.ensures.order_len.0 (short c)).1
 
 pub note-n-requires : goal.note-n-requires
-note-n-requires c = let w = (given (goal.at.note-n-requires c).In-Found).requires.0.0 in
-    let i = c.loop-visited.invariant w (mem_is (goal.at.note-n-requires c).In-Found) in
-    let h = found-holds w (mem_is (goal.at.note-n-requires c).In-Found) _ _ _ i.0 (len (goal.at.note-n-requires c).In-Found) (visited (goal.at.note-n-requires c).In-Found) _ (found (goal.at.note-n-requires c).In-Found) c.next_lawful-ending.ensures.order_len.0 (short (goal.at.note-n-requires c).In-Found) in
-    record { fitting = ((holds-fitting (prepared (goal.at.note-n-requires c).In-Found) h).0, w.known.table.small.locations); n_le_room = (i.1, omega (arith, (given (goal.at.note-n-requires c).In-Found).requires.1.1, i.2)) }
+note-n-requires c = let w = c.requires.walks.0 in
+    let i = c.loop-visited.invariant w c.memory_mask-mem.ensures in
+    let h = found-holds w c.memory_mask-mem.ensures _ _ _ i.0 c.in-Found.len c.in-Found.visited _ (found (goal.at.note-n-requires c).In-Found) c.next_lawful-ending.ensures.order_len.0 (short (goal.at.note-n-requires c).In-Found) in
+    record { fitting = ((holds-fitting (prepared (goal.at.note-n-requires c).In-Found) h).0, w.known.table.small.locations); n_le_room = (i.1, omega (arith, c.requires.readers_value.1, i.2)) }
 
 pub loop-visited-smaller : goal.loop-visited-smaller
-loop-visited-smaller c = let w = (given (goal.at.loop-visited-smaller c).In-Found).requires.0.0 in
-    let l = found_left w (mem_is (goal.at.loop-visited-smaller c).In-Found) _ _ _ (stands (goal.at.loop-visited-smaller c).In-Found w (mem_is (goal.at.loop-visited-smaller c).In-Found)) (len (goal.at.loop-visited-smaller c).In-Found) (visited (goal.at.loop-visited-smaller c).In-Found) _ (found (goal.at.loop-visited-smaller c).In-Found) c.next_lawful-ending.ensures.order_len.0 (short (goal.at.loop-visited-smaller c).In-Found) in
+loop-visited-smaller c = let w = c.requires.walks.0 in
+    let l = found_left w c.memory_mask-mem.ensures _ _ _ (c.loop-visited.invariant w c.memory_mask-mem.ensures).0 c.in-Found.len c.in-Found.visited _ (found (goal.at.loop-visited-smaller c).In-Found) c.next_lawful-ending.ensures.order_len.0 (short (goal.at.loop-visited-smaller c).In-Found) in
     omega (arith, l.0, l.1)
 
 pub loop-visited-preserved : goal.loop-visited-preserved
 loop-visited-preserved c w m = let n = c.note-n in
     let b = c.behind-from.ensures in
     let i = c.loop-visited.invariant w m in (
-      stands-found w m _ _ _ i.0 (len (goal.at.loop-visited-preserved c).In-Found) (visited (goal.at.loop-visited-preserved c).In-Found) _ (found (goal.at.loop-visited-preserved c).In-Found) c.next_lawful-ending.ensures.order_len.0 (short (goal.at.loop-visited-preserved c).In-Found) n.result _
-          (given (goal.at.loop-visited-preserved c).In-Found).args.asked refl (given (goal.at.loop-visited-preserved c).In-Found).requires.1.0 n.ensures.notes c.behind-from.result b.0 b.1 b.2 b.3,
+      stands-found w m _ _ _ i.0 c.in-Found.len c.in-Found.visited _ (found (goal.at.loop-visited-preserved c).In-Found) c.next_lawful-ending.ensures.order_len.0 (short (goal.at.loop-visited-preserved c).In-Found) n.result _
+          c.args.asked refl c.requires.readers_value.0 n.ensures.notes c.behind-from.result b.0 b.1 b.2 b.3,
       n.ensures.upper_bound.0,
       n.ensures.upper_bound.1 ∙ i.2,
     )

@@ -1,6 +1,5 @@
 use Prim.Native.Nat.{◌-◌, ◌≤◌}
-use mathlib.Core.Path.{ap, subst, ◌∙◌}
-use mathlib.Core.Logic.{⊎_elim}
+use mathlib.Core.Path.{subst}
 use native.Mathlib.Omega.{arith}
 use lib.ListN.{length}
 use Rattle.edition.specs.Limits.{two, blocks_of}
@@ -11,13 +10,12 @@ use Rattle.suite.proofs.turns.Goals.{In-Passed}
 
 -- what a turn left
 left : (c : In-Passed) →
-    let step = c.step-1.given in
+    let step = c.in-Passed.step in
     let v = c.loop-tests in
     (step.blocks ≤ blocks_of two) × (step.held ≤ length v.buffer)
 left c =
     let v = c.loop-tests in
     let turn = c.turn in
-    let step = c.step-1.given in
     few v.held v.buffer turn.new.buffer c.in-Passed.step (subst (Turned _ _ _) c.in-Passed.is turn.ensures)
 
 pub overflow_add-block : goal.overflow_add-block
@@ -26,7 +24,3 @@ overflow_add-block c = omega (arith, left c)
 pub loop-tests-preserved : goal.loop-tests-preserved
 loop-tests-preserved c = let turn = c.turn in
     (omega (arith, left c, turn.auto), omega (arith, turn.auto), omega (arith, left c))
-
-pub shape_of-buffer : goal.shape_of-buffer
-shape_of-buffer c = let same = c.loop-tests.invariant.1 in
-    ⊎_elim (λ w. ap length w.1 ∙ same) (λ w. ap length w.7 ∙ w.2.kept.1.0 ∙ same) c.loop-tests-test.branch

@@ -1,5 +1,4 @@
 use native.Mathlib.Omega.{arith}
-use Prim.Native.Nat.{◌-◌}
 use Rattle.console.proofs.RowLaws.{row_more, row-newline, row-end}
 use Rattle.console.proofs.rows.row_length.Goals as goal
 

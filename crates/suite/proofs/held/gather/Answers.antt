@@ -25,7 +25,7 @@ returns-then-n-lt-BLOCK c = subst (Holds _ _ _) c.in-Bytes.is c.fill_to.ensures
 pub returns-then-begins_two : goal.returns-then-begins_two
 returns-then-begins_two c = let filled = c.fill_to in
     let held = subst (Holds _ _ _) c.in-Bytes.is filled.ensures in
-    holds_on _ _ _ _ _ c.fill_to-then-begins_two.result filled.auto.0 held c.fill_to-then-begins_two.ensures
+    holds_on _ _ _ _ _ c.fill_to-then-begins_two.result filled.auto.buffer held c.fill_to-then-begins_two.ensures
 
 pub returns-else-begins_two : goal.returns-else-begins_two
 returns-else-begins_two c = subst (Holds _ _ _) c.in-Bytes.is c.fill_to.ensures

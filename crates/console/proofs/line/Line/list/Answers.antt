@@ -1,4 +1,3 @@
-use Prim.Native.Nat.{◌-◌}
 use lib.Seq.{take_all}
 use mathlib.Core.Path.{ap}
 use Rattle.console.proofs.TextLaws.{one_more}

@@ -1,0 +1,4 @@
+use Rattle.console.proofs.line.+digits_of.Given as goal
+
+abbrev pub decreases-digits_of : goal.decreases-digits_of
+decreases-digits_of l = l.k
