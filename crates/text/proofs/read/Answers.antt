@@ -25,14 +25,14 @@ tabulate-requires c = let o = c.in-At-outcome.ensures in
 pub returns-in-Breach : goal.returns-in-Breach
 returns-in-Breach c = let l = subst (LinesSay _ _) c.in-Breach.is c.read_events-lines.ensures in
     let w = answers-refused c.args.text.now c.args.words.now c.refused-in-Breach.result _ c.refused-in-Breach.ensures
-        (by-breach _ c.if-text-gt-MAX_TEXT.false _ _ (lines-breach _ _ l.0) l.1) (place-refuses 19 _) in
+    (by-breach _ c.if-text-gt-MAX_TEXT.false _ _ (lines-breach _ _ l.0) l.1) (place-refuses 19 _) in
     record { refusal_value = w.0; table_value = w.1.0; if_accepted = w.1.1 }
 
 pub returns-in-Breach-row : goal.returns-in-Breach-row
 returns-in-Breach-row c = let l = subst (LinesSay _ _) c.in-At.is c.read_events-lines.ensures in
     let v = subst (ValuesSay _ _ _) c.in-Breach-row.is c.read_values-values.ensures in
     let w = answers-refused c.args.text.now c.args.words.now c.refused-in-Breach-row.result _ c.refused-in-Breach-row.ensures
-        (by-breach _ c.if-text-gt-MAX_TEXT.false _ _ (values-breach _ _ _ l.1 _ v.0) v.1) (place-refuses 19 _) in
+    (by-breach _ c.if-text-gt-MAX_TEXT.false _ _ (values-breach _ _ _ l.1 _ v.0) v.1) (place-refuses 19 _) in
     record { refusal_value = w.0; table_value = w.1.0; if_accepted = w.1.1 }
 
 pub returns-in-Breach-outcome : goal.returns-in-Breach-outcome
@@ -40,7 +40,7 @@ returns-in-Breach-outcome c = let l = subst (LinesSay _ _) c.in-At.is c.read_eve
     let v = subst (ValuesSay _ _ _) c.in-At-row.is c.read_values-values.ensures in
     let o = c.in-Breach-outcome.ensures in
     let w = answers-refused c.args.text.now c.read_outcome-outcome.new.words c.refused-in-Breach-outcome.result _ c.refused-in-Breach-outcome.ensures
-        (by-breach _ c.if-text-gt-MAX_TEXT.false _ _ (outcome-breach _ _ _ l.1 _ _ v.1 _ _ o.0) o.1) (place-refuses _ _) in
+    (by-breach _ c.if-text-gt-MAX_TEXT.false _ _ (outcome-breach _ _ _ l.1 _ _ v.1 _ _ o.0) o.1) (place-refuses _ _) in
     record { refusal_value = w.0; table_value = w.1.0; if_accepted = w.1.1 }
 
 pub returns-in-At-outcome : goal.returns-in-At-outcome

@@ -42,12 +42,12 @@ returns-then-r-t c = let p = goal.at.returns-then-r-t c in
 pub returns-then-l-t : goal.returns-then-l-t
 returns-then-l-t c = let p = goal.at.returns-then-l-t c in
     ap answered (skip-2 p.Else-r-t (skip-1 p.Else-a-t) _
-        (at-atomicity _ _ _ _ _ c.lowest_lr-l.ensures c.if-l-t.true c.atomicity_writer-w.ensures))
+    (at-atomicity _ _ _ _ _ c.lowest_lr-l.ensures c.if-l-t.true c.atomicity_writer-w.ensures))
 
 pub returns-then-r-t-2 : goal.returns-then-r-t-2
 returns-then-r-t-2 c = let p = goal.at.returns-then-r-t-2 c in
     ap answered (skip-3 p.Else-l-t (skip-2 p.Else-r-t (skip-1 p.Else-a-t)) _
-        (at_read _ _ _ _ c.lowest_value_read-r.ensures c.if-r-t-2.true))
+    (at_read _ _ _ _ c.lowest_value_read-r.ensures c.if-r-t-2.true))
 
 pub lowest_final_value-x-requires : goal.lowest_final_value-x-requires
 lowest_final_value-x-requires c = c.requires.1
@@ -55,9 +55,9 @@ lowest_final_value-x-requires c = c.requires.1
 pub returns-then-x-t : goal.returns-then-x-t
 returns-then-x-t c = let p = goal.at.returns-then-x-t c in
     ap answered (skip-4 p.Else-r-t-2 (skip-3 p.Else-l-t (skip-2 p.Else-r-t (skip-1 p.Else-a-t))) _
-        (at-final _ _ _ c.lowest_final_value-x.ensures c.if-x-t.true))
+    (at-final _ _ _ c.lowest_final_value-x.ensures c.if-x-t.true))
 
 pub returns : goal.returns
 returns c = let p = goal.at.returns c in
     ap answered (skip-4 p.Else-r-t-2 (skip-3 p.Else-l-t (skip-2 p.Else-r-t (skip-1 p.Else-a-t))) _
-        (past-final _ _ _ c.lowest_final_value-x.ensures c.if-x-t.false))
+    (past-final _ _ _ c.lowest_final_value-x.ensures c.if-x-t.false))
