@@ -5,6 +5,3 @@ use Rattle.decide_calls.proofs.read_call.Goals as goal
 
 pub slice_bounds-decide-end : goal.slice_bounds-decide-end
 slice_bounds-decide-end c = sym (length-take-le _ _ (omega (arith, c.length-size.ensures)))
-
-pub decide-requires : goal.decide-requires
-decide-requires c = omega (arith, c.length-size.ensures, slice-aggregate-decide c)
