@@ -2,21 +2,14 @@
 #![tactic(auto)]
 
 use advising::Advice;
-use console::{Input, Line};
+use calls::Calls;
+use console::Line;
 
 // A call for advice on the test lent last.
 const ADVISE: u8 = b'A';
 
-// What a part of the stream did.
-#[derive(Clone, Copy)]
-enum Effect {
-    End,
-    Lent(usize),
-    Called,
-}
-
 fn with_mask(line: Line, text: &[u8], mask: u32) -> Line {
-    line.text(text).text(b", mask ").number(mask as u64)
+    line.text(text).text(b", mask ").number(u64::from(mask))
 }
 
 fn advise(rt: &HostRuntime, k: u64, block: &[u8]) {
@@ -31,40 +24,19 @@ fn advise(rt: &HostRuntime, k: u64, block: &[u8]) {
     let _ = said.end();
 }
 
-fn call(rt: &HostRuntime, tag: u8, k: u64, block: &mut [u8], size: usize) -> Effect {
-    if tag == calls::LEND {
-        return Effect::Lent(calls::frame(rt, block));
-    }
-    if tag == ADVISE {
-        advise(rt, k, console::front(block, size));
-        return Effect::Called;
-    }
-    Effect::End
-}
+#[derive(Drop)]
+struct AdviceCalls;
 
-fn turn(rt: &HostRuntime, k: u64, block: &mut [u8], size: usize) -> Effect {
-    match console::byte(rt) {
-        Input::Byte(tag) => call(rt, tag, k, block, size),
-        Input::End => Effect::End,
-    }
-}
-
-// The bound makes the loop end for the proof: nothing says that input does.
-fn advice_calls(rt: &HostRuntime, block: &mut [u8]) {
-    let mut size: usize = 0;
-    let mut k: u64 = 0;
-    let mut turns: u64 = 0;
-    while turns < u64::MAX {
-        match turn(rt, k, block, size) {
-            Effect::End => return,
-            Effect::Lent(n) => size = n,
-            Effect::Called => k += 1,
+impl Calls for AdviceCalls {
+    fn call(&mut self, rt: &HostRuntime, tag: u8, k: u64, block: &[u8]) -> bool {
+        if tag == ADVISE {
+            advise(rt, k, block);
         }
-        turns += 1;
+        tag == ADVISE
     }
 }
 
 fn main(rt: HostRuntime) {
     let mut block = [0u8; calls::TEST];
-    advice_calls(&rt, &mut block);
+    calls::answer_all(&rt, &mut block, &mut AdviceCalls);
 }

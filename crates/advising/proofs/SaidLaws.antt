@@ -19,7 +19,7 @@ use Rattle.search.specs.declared.Reply.TheVariants.{Refused as Declined, Answere
 use Rattle.search.specs.Replies.{max_allowance, table_reply, reply_of}
 use Rattle.search.specs.Begins.{Searches}
 use Rattle.search.proofs.CallLaws.{none-refused, count_small, replied-always}
-use Rattle.advice.specs.Advice.{Advice, with_fences, search_with, fences_dont_help, decided_by, first_unfound}
+use Rattle.advice.specs.Advice.{with_fences, search_with, fences_dont_help, decided_by, first_unfound}
 use Rattle.advising.specs.declared.Advice as code
 use Rattle.advising.specs.declared.Advice.TheVariants.{Refused as RefusedCase, Advised, Undecided, NoHelp}
 use Rattle.advising.specs.Chosen.{events_in}

@@ -41,11 +41,9 @@ fn clear_fences(t: Table) -> u32
     ensures { result ≡ mask_of (clear_fences t) }
 {
     let mut mask: u32 = 0;
-    let mut e: u8 = 0;
-    while e < t.count {
+    for e in 0..t.count {
         let x = t.events[e as usize];
-        mask = mask | one_if((x.kind == Kind::FENCE) & (x.flags == 0), e);
-        e += 1;
+        mask |= one_if((x.kind == Kind::FENCE) & (x.flags == 0), e);
     }
     mask
 }
@@ -59,8 +57,8 @@ fn chosen(fences: u32, m: u32) -> u32
     while left != 0 {
         let e = lowest_set(left);
         let bit = one(e);
-        left = left ^ bit;
-        set = set | mask_if(has(m, u32::count_ones(left)), bit);
+        left ^= bit;
+        set |= mask_if(has(m, u32::count_ones(left)), bit);
     }
     set
 }
@@ -69,9 +67,14 @@ fn chosen(fences: u32, m: u32) -> u32
 fn turned(turns: bool, e: Event) -> Event
     ensures { result ≡ turned turns e }
 {
-    let mut x = e;
-    x.flags = ALL_BITS;
-    if turns { x } else { e }
+    if turns {
+        Event {
+            flags: ALL_BITS,
+            ..e
+        }
+    } else {
+        e
+    }
 }
 
 // The table with a set of fences turned to all four bits.
@@ -79,23 +82,10 @@ fn with_fences(t: Table, set: u32) -> Table
     ensures { result ≡ with_fences t (events_in set) }
 {
     let mut events = t.events;
-    let mut k: usize = 0;
-    while k < CAPACITY {
+    for k in 0..CAPACITY {
         events[k] = turned(has(set, k as u32), t.events[k]);
-        k += 1;
     }
-    let initial = t.initial;
-    let finals = t.finals;
-    Table {
-        harts: t.harts,
-        locations: t.locations,
-        count: t.count,
-        stated: t.stated,
-        model: t.model,
-        initial,
-        events,
-        finals,
-    }
+    Table { events, ..t }
 }
 
 // What the search with a set says, by the facts of the table without it; a set with which a witness is found doesn't help.
@@ -123,12 +113,7 @@ fn try_set(t: Table, facts: &[[u32; CAPACITY]; ROWS], set: u32, allowance: u64) 
 fn decides(said: Advice) -> bool
     ensures { result ≡ decides (advice_of said) }
 {
-    match said {
-        Advice::Refused(refusal) => true,
-        Advice::Advised(set) => true,
-        Advice::Undecided(set) => true,
-        Advice::NoHelp => false,
-    }
+    !matches!(said, Advice::NoHelp)
 }
 
 // Tries the sets of one size: from the greatest mask down, and so in the order of their lists.
@@ -142,9 +127,7 @@ fn try_size(
     requires { Facts t facts.now × (length (events_in fences) ≤ most_fences) × (allowance ≤ max_allowance) }
     ensures { advice_of result ≡ answered (first_unfound (search_with t allowance) (of_size (events_in fences) size)) }
 {
-    let mut m = one(u32::count_ones(fences));
-    while m > 0 {
-        m -= 1;
+    for m in (0..one(u32::count_ones(fences))).rev() {
         if u32::count_ones(m) == size {
             let said = try_set(t, facts, chosen(fences, m), allowance);
             if decides(said) {
@@ -161,13 +144,11 @@ fn try_all(t: Table, facts: &[[u32; CAPACITY]; ROWS], fences: u32, allowance: u6
     ensures { advice_of result ≡ answered (first_unfound (search_with t allowance) (by_size (events_in fences))) }
 {
     let most = u32::count_ones(fences);
-    let mut size: u32 = 0;
-    while size <= most {
+    for size in 0..=most {
         let said = try_size(t, facts, fences, size, allowance);
         if decides(said) {
             return said;
         }
-        size += 1;
     }
     Advice::NoHelp
 }

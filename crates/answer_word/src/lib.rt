@@ -59,13 +59,7 @@ impl Case {
     const NO_HELP: u8 = 13;
 }
 
-// The weights of bytes 1, 2 and 3 of a word, and that of its upper half.
-const BYTE_1: u64 = 256;
-
-const BYTE_2: u64 = 65_536;
-
-const BYTE_3: u64 = 16_777_216;
-
+// The weight of a word's upper half.
 const UPPER_HALF: u64 = 4_294_967_296;
 
 // In the place of a record where none is named.
@@ -75,11 +69,7 @@ fn word(kind: u8, a: u8, b: u8, d: u8, visited: u64) -> u64
     requires { visited < 2 ^ 32 }
     ensures { result ≡ word kind a b d visited }
 {
-    kind as u64
-        + BYTE_1 * (a as u64)
-        + BYTE_2 * (b as u64)
-        + BYTE_3 * (d as u64)
-        + UPPER_HALF * visited
+    u64::from(u32::from_le_bytes([kind, a, b, d])) + UPPER_HALF * visited
 }
 
 pub fn refusal_word(refusal: Refusal) -> u64
@@ -114,7 +104,7 @@ fn upper_half(set: u16) -> u64
     ensures value { result ≡ rules_mask (rules_in set) }
     ensures upper_bound { result < 2 ^ 32 }
 {
-    set as u64
+    u64::from(set)
 }
 
 fn lowest(set: u16) -> u8
@@ -175,8 +165,8 @@ pub fn advice_word(advice: Advice) -> u64
 {
     match advice {
         Advice::Refused(refusal) => refusal_word(refusal),
-        Advice::Advised(set) => word(Case::ADVISED, 0, 0, 0, set as u64),
-        Advice::Undecided(set) => word(Case::UNDECIDED, 0, 0, 0, set as u64),
+        Advice::Advised(set) => word(Case::ADVISED, 0, 0, 0, u64::from(set)),
+        Advice::Undecided(set) => word(Case::UNDECIDED, 0, 0, 0, u64::from(set)),
         Advice::NoHelp => word(Case::NO_HELP, 0, 0, 0, 0),
     }
 }
@@ -240,7 +230,7 @@ pub fn outcomes_word(reply: OutcomeReply) -> u64
             values,
             0,
             0,
-            outcomes as u64,
+            u64::from(outcomes),
         ),
         OutcomeReply::NoneLeft => word(Case::NONE_LEFT, 0, 0, 0, 0),
         OutcomeReply::Spent => word(Case::SPENT, 0, 0, 0, 0),

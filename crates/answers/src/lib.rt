@@ -21,7 +21,7 @@ fn total(t: Table) -> usize
     requires { Small t }
     ensures { result ≡ memory_count t }
 {
-    u32::count_ones(table::memory_mask(t)) as usize
+    table::memory_mask(t).count_ones() as usize
 }
 
 // The verdict for a candidate of a table: 12, 13, 14, then the first axiom that is broken.
@@ -29,7 +29,7 @@ pub fn judge(t: Table, returned: &[u8], order: &[u8]) -> Verdict
     requires { Small t }
     ensures { judged_of result ≡ reply_unless (first_line t.count (candidate_lines t returned.now order.now)) (verdict t returned.now order.now) }
 {
-    if (order.len() != total(t)) | (returned.len() != t.count as usize) {
+    if (order.len() != total(t)) | (returned.len() != usize::from(t.count)) {
         return Verdict::Refused(Refusal::Line(12));
     }
     if candidate::order_wrong(t, order) {
@@ -53,7 +53,7 @@ pub fn determine(t: Table, order: &[u8], out: &mut [u8]) -> Refusal
     if candidate::order_wrong(t, order) {
         return Refusal::Line(13);
     }
-    if out.len() < t.count as usize {
+    if out.len() < usize::from(t.count) {
         return Refusal::Line(16);
     }
     returns::determine(t, order, out);

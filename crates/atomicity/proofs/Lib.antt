@@ -1,1 +1,2 @@
 pub mod AtomicityLaws
+pub mod LowestLaws

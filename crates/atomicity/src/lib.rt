@@ -1,7 +1,7 @@
 // Atomicity: LR l is paired with SC s; it returned from the write f.
 #![tactic(auto)]
 
-ghost use Rattle.std.specs.Prelude.{◌≤◌, ◌<◌, ◌≡◌, length};
+ghost use Rattle.std.specs.Prelude.{◌≤◌, ◌<◌, ◌≡◌, SomeIff, length};
 ghost use Rattle.lists.specs.Below.{lowest};
 ghost use Rattle.table.specs.Events.{capacity};
 ghost use Rattle.model.specs.Axioms.{write_is_late, intrudes, breaks_pair, breaks_atomicity, atomicity_writer};
@@ -34,19 +34,17 @@ fn intrudes(t: Table, rf: &[u8], gmo: &[u8], l: EventNo, s: EventNo, w: EventNo)
     }
 }
 
-// The lowest such write; the number of events if there is none.
-fn lowest_intruder(t: Table, rf: &[u8], gmo: &[u8], l: EventNo, s: EventNo) -> EventNo
+// The lowest such write.
+fn lowest_intruder(t: Table, rf: &[u8], gmo: &[u8], l: EventNo, s: EventNo) -> Option<EventNo>
     requires { (l.0 < t.count) × (t.count ≤ capacity) × (length rf.now ≡ t.count) }
-    ensures { result.0 ≡ lowest t.count (intrudes t rf.now gmo.now l.0 s.0) }
+    ensures { let w = lowest t.count (intrudes t rf.now gmo.now l.0 s.0) in SomeIff result (w < t.count) (record { 0 = w }) }
 {
-    let mut w: u8 = 0;
-    while w < t.count {
+    for w in 0..t.count {
         if intrudes(t, rf, gmo, l, s, EventNo(w)) {
-            return EventNo(w);
+            return Some(EventNo(w));
         }
-        w += 1;
     }
-    EventNo(t.count)
+    None
 }
 
 // Atomicity breaks for l and s.
@@ -55,45 +53,39 @@ pub fn breaks_pair(t: Table, rf: &[u8], gmo: &[u8], l: EventNo, s: EventNo) -> b
     ensures { result ≡ breaks_pair t rf.now gmo.now l.0 s.0 }
 {
     if table::paired(t, l, s) {
-        write_is_late(rf, gmo, l, s) | (lowest_intruder(t, rf, gmo, l, s).0 < t.count)
+        write_is_late(rf, gmo, l, s) | lowest_intruder(t, rf, gmo, l, s).is_some()
     } else {
         false
     }
 }
 
-// The lowest SC for which it breaks at l; the number of events if there is none.
-fn lowest_sc(t: Table, rf: &[u8], gmo: &[u8], l: EventNo) -> EventNo
+// The lowest SC for which it breaks at l.
+fn lowest_sc(t: Table, rf: &[u8], gmo: &[u8], l: EventNo) -> Option<EventNo>
     requires { (l.0 < t.count) × (t.count ≤ capacity) × (length rf.now ≡ t.count) }
-    ensures { result.0 ≡ lowest t.count (breaks_pair t rf.now gmo.now l.0) }
+    ensures { let s = lowest t.count (breaks_pair t rf.now gmo.now l.0) in SomeIff result (s < t.count) (record { 0 = s }) }
 {
-    let mut s: u8 = 0;
-    while s < t.count {
+    for s in 0..t.count {
         if breaks_pair(t, rf, gmo, l, EventNo(s)) {
-            return EventNo(s);
+            return Some(EventNo(s));
         }
-        s += 1;
     }
-    EventNo(t.count)
+    None
 }
 
-// The lowest LR at which atomicity breaks; the number of events if there is none. Of other events no call, which would copy
-// the table.
-pub fn lowest_lr(t: Table, rf: &[u8], gmo: &[u8]) -> EventNo
+// The lowest LR at which atomicity breaks. Of other events no call, which would copy the table.
+pub fn lowest_lr(t: Table, rf: &[u8], gmo: &[u8]) -> Option<EventNo>
     requires { (t.count ≤ capacity) × (length rf.now ≡ t.count) }
-    ensures { result.0 ≡ lowest t.count (breaks_atomicity t rf.now gmo.now) }
+    ensures { let l = lowest t.count (breaks_atomicity t rf.now gmo.now) in SomeIff result (l < t.count) (record { 0 = l }) }
 {
-    let mut l: u8 = 0;
-    while l < t.count {
+    for l in 0..t.count {
         if t.events[l as usize].kind != Kind::LR {
-            l += 1;
             continue;
         }
-        if lowest_sc(t, rf, gmo, EventNo(l)).0 < t.count {
-            return EventNo(l);
+        if lowest_sc(t, rf, gmo, EventNo(l)).is_some() {
+            return Some(EventNo(l));
         }
-        l += 1;
     }
-    EventNo(t.count)
+    None
 }
 
 // The writer named: "the lowest foreign writer between; if the write itself fails to precede, that write"
@@ -101,10 +93,11 @@ pub fn atomicity_writer(t: Table, rf: &[u8], gmo: &[u8], l: EventNo) -> EventNo
     requires { (l.0 < t.count) × (t.count ≤ capacity) × (length rf.now ≡ t.count) }
     ensures { result.0 ≡ atomicity_writer t rf.now gmo.now l.0 }
 {
-    let s = lowest_sc(t, rf, gmo, l);
+    let none = EventNo(t.count);
+    let s = lowest_sc(t, rf, gmo, l).unwrap_or(none);
     if write_is_late(rf, gmo, l, s) {
         EventNo(returned_from(rf, l))
     } else {
-        lowest_intruder(t, rf, gmo, l, s)
+        lowest_intruder(t, rf, gmo, l, s).unwrap_or(none)
     }
 }

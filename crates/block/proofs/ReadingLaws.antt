@@ -2,7 +2,7 @@
 use Prim.Native.Nat.{ℕ, ◌+◌, ◌<◌}
 use mathlib.Core.Path.{◌≡◌, refl, sym, ap, ◌∙◌}
 use mathlib.Core.Bool.{Bool, true, false, ◌&&◌, ◌||◌, not}
-use mathlib.Core.List.{List, []}
+use mathlib.Core.List.{List}
 use native.Mathlib.Omega.{arith}
 use lib.Dec.{eqb}
 use Rattle.lists.specs.Below.{some}
@@ -12,7 +12,7 @@ use Rattle.table.specs.Events.{capacity}
 use Rattle.suite_part.specs.Part.{block_of}
 use Rattle.decode.specs.Layout.{byte_at, edition_at, second_if, edition_of}
 use Rattle.decode.specs.Decoded.{decoded_as, decoded}
-use Rattle.refusals.specs.Lines.{Refused, accepted, by_line, Line, first_line, unless}
+use Rattle.refusals.specs.Lines.{Refused, accepted, by_line, first_line, unless}
 use Rattle.refusals.specs.TableLines.{line7, table_lines}
 use Rattle.refusals.proofs.LineLaws.{whole-next}
 use Rattle.refusals.proofs.PassedLaws.{passed-both}

@@ -74,7 +74,7 @@ pub fn marker_wrong(s: &[u8]) -> bool
     requires { block_length ≤ length s.now }
     ensures { result ≡ line3 s.now }
 {
-    (s[0] != MARKER[0]) | (s[1] != MARKER[1]) | (s[2] != MARKER[2]) | (s[3] != MARKER[3])
+    !s.starts_with(&MARKER)
 }
 
 // What edition 1 asks, and the table. A good one isn't handed on, as a call would copy it.

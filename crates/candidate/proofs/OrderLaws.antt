@@ -1,7 +1,7 @@
 -- Line 13 as the code tests it.
 use Prim.Native.Nat.{ℕ}
 use mathlib.Core.Path.{◌≡◌}
-use mathlib.Core.Bool.{Bool, ◌&&◌, ◌||◌, not}
+use mathlib.Core.Bool.{◌&&◌, ◌||◌, not}
 use mathlib.Core.List.{List}
 use lib.Dec.{eqb}
 use Rattle.lists.specs.Below.{some}

@@ -12,24 +12,11 @@ ghost use Rattle.candidate.specs.CandidateLines.{writer_for, returned_wrong, ord
 use reads_from::{INITIALLY, NOTHING, returned_from};
 use table::{EventNo, Table};
 
-// 1 if the two are the same.
-fn same(x: u8, y: u8) -> usize
-    ensures { (result ≡ cond (eqb x y) 1 0) × (result ≤ 1) }
-{
-    if x == y { 1 } else { 0 }
-}
-
 // How often event e is in the order.
 fn count_of(gmo: &[u8], e: EventNo) -> usize
     ensures { result ≡ count e.0 gmo.now }
 {
-    let mut n: usize = 0;
-    let mut i: usize = 0;
-    while i < gmo.len() {
-        n += same(e.0, gmo[i]);
-        i += 1;
-    }
-    n
+    gmo.iter().filter(|w| e.0 == **w).count()
 }
 
 // Some memory event isn't in the order once.
@@ -37,33 +24,28 @@ fn some_not_once(t: Table, gmo: &[u8]) -> bool
     requires { t.count ≤ capacity }
     ensures { result ≡ some t.count (λ e. memory t e && not (eqb (count e gmo.now) 1)) }
 {
-    let mut e: u8 = 0;
-    while e < t.count {
+    for e in 0..t.count {
         if table::memory(t.events[e as usize]) & (count_of(gmo, EventNo(e)) != 1) {
             return true;
         }
-        e += 1;
     }
     false
 }
 
-// Every entry is a memory event of the test.
+// e is a memory event of the test.
+fn is_memory_event(t: &Table, e: u8) -> bool
+    requires { t.now.count ≤ capacity }
+    ensures { result ≡ is_memory_event t.now e }
+{
+    e < t.count && table::memory(t.events[e as usize])
+}
+
+// Every entry is one.
 fn all_memory(t: Table, gmo: &[u8]) -> bool
     requires { t.count ≤ capacity }
     ensures { result ≡ all (is_memory_event t) gmo.now }
 {
-    let mut i: usize = 0;
-    while i < gmo.len() {
-        let e = gmo[i];
-        if t.count <= e {
-            return false;
-        }
-        if !table::memory(t.events[e as usize]) {
-            return false;
-        }
-        i += 1;
-    }
-    true
+    gmo.iter().all(|e| is_memory_event(&t, *e))
 }
 
 // 13: the order isn't each memory event once.
@@ -104,12 +86,10 @@ pub fn returned_wrong(t: Table, rf: &[u8]) -> bool
     requires { (t.count ≤ capacity) × (length rf.now ≡ t.count) }
     ensures { result ≡ returned_wrong t rf.now }
 {
-    let mut e: u8 = 0;
-    while e < t.count {
+    for e in 0..t.count {
         if entry_wrong(t, EventNo(e), returned_from(rf, EventNo(e))) {
             return true;
         }
-        e += 1;
     }
     false
 }

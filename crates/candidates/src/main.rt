@@ -1,7 +1,8 @@
 // Reads a stream of candidates, of pairs whose rules and of orders whose returned lists are asked for, and prints a line for each.
 #![tactic(auto)]
 
-use console::{Input, Line};
+use calls::Calls;
+use console::Line;
 use pair_rules::PairRules;
 use refusals::Refusal;
 use table::EventNo;
@@ -14,17 +15,6 @@ const RETURNED: u8 = b'D';
 
 const RULES: u8 = b'R';
 
-// How many rules a set has room for.
-const ROOM: u64 = 16;
-
-// What a part of the stream did.
-#[derive(Clone, Copy)]
-enum Effect {
-    End,
-    Lent(usize),
-    Called,
-}
-
 fn event(line: Line, e: EventNo) -> Line {
     line.item(b" ", e.0)
 }
@@ -32,14 +22,10 @@ fn event(line: Line, e: EventNo) -> Line {
 // The numbers of a set, whose bit r - 1 is rule r.
 fn rules(line: Line, set: u16) -> Line {
     let mut said = line.text(b"rules");
-    let mut rest = set;
-    let mut rule: u64 = 1;
-    while rule <= ROOM {
-        if rest % 2 == 1 {
-            said = said.spaced(rule);
+    for bit in 0..u16::BITS {
+        if (set >> bit) % 2 == 1 {
+            said = said.spaced(u64::from(bit) + 1);
         }
-        rest /= 2;
-        rule += 1;
     }
     said
 }
@@ -59,7 +45,11 @@ fn axiom(line: Line, broken: Axiom) -> Line {
     }
 }
 
-fn verdict(rt: &HostRuntime, k: u64, block: &[u8], returned: &[u8], order: &[u8]) {
+fn verdict(rt: &HostRuntime, k: u64, block: &[u8]) {
+    let mut returned = [0u8; calls::LIST];
+    let returned = calls::list(rt, &mut returned);
+    let mut order = [0u8; calls::LIST];
+    let order = calls::list(rt, &mut order);
     let line = calls::begin(rt, k);
     let said = match bench::verdict(block, returned, order) {
         Verdict::Refused(r) => words::refused(line, r),
@@ -69,40 +59,22 @@ fn verdict(rt: &HostRuntime, k: u64, block: &[u8], returned: &[u8], order: &[u8]
     let _ = said.end();
 }
 
-fn read_verdict(rt: &HostRuntime, k: u64, block: &[u8]) {
-    let mut returned = [0u8; calls::LIST];
-    let entries = calls::list(rt, &mut returned);
+fn returns(rt: &HostRuntime, k: u64, block: &[u8]) {
     let mut order = [0u8; calls::LIST];
-    let n = calls::list(rt, &mut order);
-    verdict(
-        rt,
-        k,
-        block,
-        console::front(&returned, entries),
-        console::front(&order, n),
-    );
-}
-
-fn returns(rt: &HostRuntime, k: u64, block: &[u8], order: &[u8], answer: &mut [u8]) {
+    let order = calls::list(rt, &mut order);
+    let mut answer = [calls::PREFILL; calls::LIST];
+    let answer = calls::answer(rt, &mut answer);
     let line = calls::begin(rt, k);
-    let refusal = bench::returns(block, order, answer);
-    let said = match refusal {
+    let said = match bench::returns(block, order, answer) {
         Refusal::None => line.text(b"written"),
-        Refusal::Line(_) => words::refused(line, refusal),
-        Refusal::Record(_, _) => words::refused(line, refusal),
+        refusal => words::refused(line, refusal),
     };
     calls::end(said, answer);
 }
 
-fn read_returns(rt: &HostRuntime, k: u64, block: &[u8]) {
-    let mut order = [0u8; calls::LIST];
-    let n = calls::list(rt, &mut order);
-    let mut answer = [calls::PREFILL; calls::LIST];
-    let size = calls::length(rt);
-    returns(rt, k, block, console::front(&order, n), &mut answer[..size]);
-}
-
-fn pair(rt: &HostRuntime, k: u64, block: &[u8], returned: &[u8]) {
+fn pair(rt: &HostRuntime, k: u64, block: &[u8]) {
+    let mut returned = [0u8; calls::LIST];
+    let returned = calls::list(rt, &mut returned);
     let a = calls::number(rt);
     let b = calls::number(rt);
     let line = calls::begin(rt, k);
@@ -113,55 +85,22 @@ fn pair(rt: &HostRuntime, k: u64, block: &[u8], returned: &[u8]) {
     let _ = said.end();
 }
 
-fn read_pair(rt: &HostRuntime, k: u64, block: &[u8]) {
-    let mut returned = [0u8; calls::LIST];
-    let entries = calls::list(rt, &mut returned);
-    pair(rt, k, block, console::front(&returned, entries));
-}
+#[derive(Drop)]
+struct Candidates;
 
-fn call(rt: &HostRuntime, tag: u8, k: u64, block: &mut [u8], size: usize) -> Effect {
-    if tag == calls::LEND {
-        return Effect::Lent(calls::frame(rt, block));
-    }
-    let bytes = console::front(block, size);
-    if tag == VERDICT {
-        read_verdict(rt, k, bytes);
-        return Effect::Called;
-    }
-    if tag == RETURNED {
-        read_returns(rt, k, bytes);
-        return Effect::Called;
-    }
-    if tag == RULES {
-        read_pair(rt, k, bytes);
-        return Effect::Called;
-    }
-    Effect::End
-}
-
-fn turn(rt: &HostRuntime, k: u64, block: &mut [u8], size: usize) -> Effect {
-    match console::byte(rt) {
-        Input::Byte(tag) => call(rt, tag, k, block, size),
-        Input::End => Effect::End,
-    }
-}
-
-// The bound makes the loop end for the proof: nothing says that input does.
-fn candidates(rt: &HostRuntime, block: &mut [u8]) {
-    let mut size: usize = 0;
-    let mut k: u64 = 0;
-    let mut turns: u64 = 0;
-    while turns < u64::MAX {
-        match turn(rt, k, block, size) {
-            Effect::End => return,
-            Effect::Lent(n) => size = n,
-            Effect::Called => k += 1,
+impl Calls for Candidates {
+    fn call(&mut self, rt: &HostRuntime, tag: u8, k: u64, block: &[u8]) -> bool {
+        match tag {
+            VERDICT => verdict(rt, k, block),
+            RETURNED => returns(rt, k, block),
+            RULES => pair(rt, k, block),
+            _ => return false,
         }
-        turns += 1;
+        true
     }
 }
 
 fn main(rt: HostRuntime) {
     let mut block = [0u8; calls::TEST];
-    candidates(&rt, &mut block);
+    calls::answer_all(&rt, &mut block, &mut Candidates);
 }

@@ -6,7 +6,7 @@ use native.Mathlib.Nat.{le_of_lt, mul-le-mul}
 use native.Mathlib.Numerals.{add-one}
 use native.Mathlib.Omega.{arith}
 use lib.ListN.{length, get_or, take}
-use lib.Seq.{take-suc, length-take-le}
+use lib.Seq.{take-suc, take_all, length-take-le}
 use Rattle.checksum.specs.Checksum.{covered, weighted_from, checksum}
 
 -- the last byte stands apart
@@ -35,8 +35,6 @@ pub weighted-small : (i n b : ℕ) → i < n → b < 256 → (i + 1) * b ≤ n *
 weighted-small i n b h k = mul-le-mul {n₂ = n} {m₂ = 255} (omega arith) (omega arith)
 
 -- all bytes that the check covers were added
-pub weighted-done : (l : List ℕ) (i : ℕ) → i ≤ covered → covered ≤ i → weighted_from 0 (take i l) ≡ checksum l
+pub weighted-done : (l : List ℕ) (i : ℕ) → length (take covered l) ≤ i → weighted_from 0 (take i (take covered l)) ≡ checksum l
 unfolding checksum
-weighted-done l i h k =
-    let e : i ≡ covered = omega arith in
-    ap (λ (n : ℕ). weighted_from 0 (take n l)) e
+weighted-done l i h = ap (weighted_from 0) (take_all i (take covered l) h)

@@ -16,7 +16,7 @@ fn weighted(i: usize, b: u8) -> u32
     ensures product { result ≡ (i + 1) * b }
     ensures small { result ≤ covered * 255 }
 {
-    (i as u32 + 1) * b as u32
+    (i as u32 + 1) * u32::from(b)
 }
 
 fn by_weights(s: &[u8]) -> u32
@@ -24,10 +24,8 @@ fn by_weights(s: &[u8]) -> u32
     ensures { result ≡ checksum s.now }
 {
     let mut sum: u32 = 0;
-    let mut i: usize = 0;
-    while i < COVERED {
-        sum += weighted(i, s[i]);
-        i += 1;
+    for (i, b) in s[..COVERED].iter().enumerate() {
+        sum += weighted(i, *b);
     }
     sum
 }

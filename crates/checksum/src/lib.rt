@@ -12,8 +12,8 @@ const COVERED: usize = 508;
 // How many bytes stand in a row, each in a lane of its own. The covered bytes are whole rows.
 const LANES: usize = 4;
 
-// Where the last row begins.
-const LAST: usize = COVERED - LANES;
+// How many rows stand before the last one.
+const ROWS: usize = COVERED / LANES - 1;
 
 // The row of bytes that begins at `at`.
 fn row(s: &[u8], at: usize) -> [u32; LANES]
@@ -22,10 +22,10 @@ fn row(s: &[u8], at: usize) -> [u32; LANES]
     ensures small { plain result ≤ lanes * 255 }
 {
     [
-        s[at] as u32,
-        s[at + 1] as u32,
-        s[at + 2] as u32,
-        s[at + 3] as u32,
+        u32::from(s[at]),
+        u32::from(s[at + 1]),
+        u32::from(s[at + 2]),
+        u32::from(s[at + 3]),
     ]
 }
 
@@ -65,13 +65,11 @@ pub fn checksum(s: &[u8]) -> u32
     requires { covered ≤ length s.now }
     ensures { result ≡ checksum s.now }
 {
-    let mut sums = row(s, LAST);
-    let mut steps = [0u32; LANES];
-    let mut at: usize = LAST;
-    while at > 0 {
-        at -= LANES;
+    let mut sums = row(s, LANES * ROWS);
+    let mut steps = [0; LANES];
+    for k in (0..ROWS).rev() {
         let more_steps = add(steps, sums);
-        let more_sums = add(sums, row(s, at));
+        let more_sums = add(sums, row(s, LANES * k));
         steps = more_steps;
         sums = more_sums;
     }

@@ -1,22 +1,17 @@
 -- The readers of a condition, once the readers of its parts are known.
-use Prim.Native.Nat.{ℕ, ◌+◌, ◌≤◌, ◌<◌}
-use mathlib.Core.Path.{◌≡◌, refl, sym, ap, subst, ◌∙◌}
+use Prim.Native.Nat.{ℕ, ◌+◌, ◌<◌}
+use mathlib.Core.Path.{◌≡◌, refl, sym, ap, ◌∙◌}
 use mathlib.Core.Bool.{true, Bool, false}
 use mathlib.Core.List.{List, [], ◌∷◌, ◌++◌}
 use native.Mathlib.Numerals.{add-one}
-use native.Mathlib.Omega.{arith}
 use lib.ListN.{length, drop, take, set}
 use lib.Seq.{take-suc-set}
 use Rattle.text_format.specs.Bytes.{equals}
 use Rattle.text_format.specs.Condition.{Condition, max_number, max_value}
-use Rattle.text_format.specs.Document.{max_text}
 use Rattle.text_format.specs.Reading.{word, number, atom, got, breach}
-use Rattle.condition_reader.specs.Steps.{compiled, Fed, Goes, AtomSays, lettered, Inside}
-use Rattle.condition_reader.specs.Words.{returns_node, ends_node, node_word, atom_of, code, max_words}
+use Rattle.condition_reader.specs.Steps.{lettered}
+use Rattle.condition_reader.specs.Words.{returns_node, ends_node, node_word, atom_of, code}
 use Rattle.condition_reader.proofs.NumberLaws.{here}
-use Rattle.condition_reader.specs.declared.Step.{Step}
-use Rattle.condition_reader.specs.declared.Step.TheVariants.{At, Breach}
-use Rattle.condition_reader.specs.declared.Atom.TheVariants.{Got as Got·atom, Breach as Breach·atom}
 
 -- one more word in the buffer
 pub put : (out : List ℕ) (n w : ℕ) → n < length out → take (n + 1) (set out n w) ≡ take n out ++ (w ∷ [])
@@ -54,29 +49,7 @@ module _ (made : ℕ → ℕ → Condition) (s r : List ℕ) where
       unfolding atom
       atom-got v g = rw (e, f, g)
 
--- the atom whose letter stands at a step
-module _ (s before : List ℕ) (returned : Bool) (at len : ℕ) (c : Step) (e : c ≡ At at len) (g : Inside s c)
-    (m : length before ≡ max_words) (l : length s ≤ max_text) (f : Fed s c) where
-  lettered-at : lettered returned (drop at s) ≡ atom (atom_of returned) (drop (at + 1) s)
-  unfolding lettered
-  lettered-at = ap (λ (r : List ℕ). atom (atom_of returned) (drop 1 r)) (here s at (subst (Inside s) e g))
-
-  pub atom-bad : (place : ℕ) (after : List ℕ) → AtomSays s at returned (Breach·atom place) →
-      Goes s before after 0 (compiled (lettered returned)) c (Breach 19 place)
-  unfolding compiled
-  atom-bad place after h =
-      subst (λ (d : Step). Goes s before after 0 (compiled (lettered returned)) d (Breach 19 place)) (sym e)
-      (record { state = rw (lettered-at, h.0); fed = h.1; paid = tt })
-
-  pub atom-on : (word next : ℕ) → AtomSays s at returned (Got·atom word next) →
-      Goes s before (set before len word) 0 (compiled (lettered returned)) c (At next (len + 1))
-  unfolding compiled
-  atom-on word next h =
-      let k : len < length before = omega (arith, subst (Fed s) e f, h.3, h.4, m, l) in
-      subst (λ (d : Step). Goes s before (set before len word) 0 (compiled (lettered returned)) d (At next (len + 1))) (sym e)
-      (record {
-        state = ap (λ (w : List ℕ). got w (drop next s)) (put-node before len word (atom_of returned h.0 h.1) k h.5)
-            ∙ rw (lettered-at, h.2);
-        fed = (h.3, omega (arith, subst (Fed s) e f, h.4));
-        paid = omega (arith, h.4);
-      })
+-- the atom whose letter stands at a place
+pub lettered-at : (s : List ℕ) (at : ℕ) (returned : Bool) → at < length s → lettered returned (drop at s) ≡ atom (atom_of returned) (drop (at + 1) s)
+unfolding lettered
+lettered-at s at returned h = ap (λ (r : List ℕ). atom (atom_of returned) (drop 1 r)) (here s at h)

@@ -1,8 +1,6 @@
 pub mod NumberLaws
 pub mod WordLaws
-pub mod StepLaws
-pub mod JointLaws
 pub mod AtomLaws
 pub mod OpeningLaws
-pub mod MarkLaws
+pub mod JointLaws
 pub mod ConditionLaws

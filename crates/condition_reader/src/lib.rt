@@ -1,12 +1,11 @@
-// Reads a condition into words that can be run one after the other, by recursion: the depth that remains falls at each call. A
-// step that is a breach goes through every reader unchanged.
+// Reads a condition into words that can be run one after the other, by recursion: the depth that remains falls at each call.
 #![tactic(auto)]
 
-ghost use Rattle.std.specs.Prelude.{◌≤◌, ◌<◌, ◌≡◌, [], ◌∷◌, length};
+ghost use Rattle.std.specs.Prelude.{◌+◌, ◌≤◌, ◌<◌, ◌≡◌, [], ◌∷◌, length, drop, set};
 ghost use Rattle.text_format.specs.Condition.{max_number, max_value};
 ghost use Rattle.text_format.specs.Reading.{condition};
 ghost use Rattle.condition_reader.specs.Words.{atom_of, code, skip_word, joint_node, max_words};
-ghost use Rattle.condition_reader.specs.Steps.{NumberSays, FoundSays, AtomSays, JointSays, Room, Fed, Free, Inside, Goes, Skips, Pushes, Halts, compiled, lettered, state_of, Spans, marked, or_next, letter_of, opening_of};
+ghost use Rattle.condition_reader.specs.Steps.{NumberSays, FoundSays, AtomSays, JointSays, Room, Goes, Skips, lettered, opening_of};
 
 // Room for the words of any condition: each takes four bytes of a text or more.
 pub const WORDS: usize = 512;
@@ -28,25 +27,25 @@ pub const AND: u32 = 3;
 
 pub const OR: u32 = 4;
 
-// A number and the place behind it; or the place of the breach.
+// The first breach of a text, at a place: a byte that may not stand there, or the end; or a level too many would begin there.
 #[derive(Clone, Copy)]
-pub enum Number {
-    Got { value: u32, next: usize },
-    Breach(usize),
+pub enum Breach {
+    Illegal(usize),
+    TooDeep(usize),
 }
 
-// The place behind fixed bytes; or that of the breach.
+// A number, and the place behind it.
 #[derive(Clone, Copy)]
-pub enum Found {
-    At(usize),
-    Breach(usize),
+pub struct Number {
+    pub value: u32,
+    pub next: usize,
 }
 
-// Where reading goes on, with so many words in the buffer; or the first breach: its refusal and its place.
+// Where reading goes on, with so many words in the buffer.
 #[derive(Clone, Copy)]
-pub enum Step {
-    At { at: usize, len: usize },
-    Breach { number: u8, place: usize },
+pub struct Step {
+    pub at: usize,
+    pub len: usize,
 }
 
 // The connective, and where reading goes on.
@@ -66,180 +65,103 @@ pub enum Opening {
     Other,
 }
 
-// An atom's word and the place behind it; or the place of the breach.
+// An atom's word, and the place behind it.
 #[derive(Clone, Copy)]
-pub enum Atom {
-    Got { word: u32, next: usize },
-    Breach(usize),
+pub struct Atom {
+    pub word: u32,
+    pub next: usize,
 }
 
 // A number of at most `most`, without a leading zero.
-pub fn read_number(text: &[u8], from: usize, most: u32) -> Number
+pub fn read_number(text: &[u8], from: usize, most: u32) -> Result<Number, Breach>
     requires from_in_bounds { from ≤ length text.now }
     requires le_most { 9 ≤ most }
     ensures { NumberSays text.now from most result }
 {
     if text.len() <= from {
-        return Number::Breach(from);
+        return Err(Breach::Illegal(from));
     }
     let first = text[from];
     if (first < b'0') | (b'9' < first) {
-        return Number::Breach(from);
+        return Err(Breach::Illegal(from));
     }
-    let mut value = (first - b'0') as u32;
-    let mut at = from + 1;
-    while at < text.len() {
+    let mut value = u32::from(first - b'0');
+    for at in from + 1..text.len() {
         let digit = text[at];
         if (digit < b'0') | (b'9' < digit) {
-            return Number::Got { value, next: at };
+            return Ok(Number { value, next: at });
         }
-        let more = 10 * (value as u64) + ((digit - b'0') as u64);
-        if (value == 0) | ((most as u64) < more) {
-            return Number::Breach(at);
+        let more = 10 * u64::from(value) + u64::from(digit - b'0');
+        if (value == 0) | (u64::from(most) < more) {
+            return Err(Breach::Illegal(at));
         }
         value = more as u32;
-        at += 1;
     }
-    Number::Got { value, next: at }
+    Ok(Number {
+        value,
+        next: text.len(),
+    })
 }
 
-// These bytes, one after the other.
-pub fn read_word(text: &[u8], at: usize, bytes: &[u8]) -> Found
+// The place behind these bytes, one after the other.
+pub fn read_word(text: &[u8], at: usize, bytes: &[u8]) -> Result<usize, Breach>
     requires { at ≤ length text.now }
     ensures { FoundSays text.now at bytes.now result }
 {
-    let mut next = at;
-    let mut i: usize = 0;
-    while i < bytes.len() {
-        if text.len() <= next {
-            return Found::Breach(next);
+    for (i, byte) in bytes.iter().enumerate() {
+        if text.get(at + i) != Some(byte) {
+            return Err(Breach::Illegal(at + i));
         }
-        if text[next] != bytes[i] {
-            return Found::Breach(next);
-        }
-        next += 1;
-        i += 1;
     }
-    Found::At(next)
+    Ok(at + bytes.len())
 }
 
 // Fixed bytes, from a step.
-fn skip(text: &[u8], step: Step, bytes: &[u8]) -> Step
-    requires { Fed text.now step }
+fn skip(text: &[u8], step: Step, bytes: &[u8]) -> Result<Step, Breach>
+    requires { step.at ≤ length text.now }
     ensures { Skips text.now bytes.now step result }
 {
-    match step {
-        Step::Breach { number, place } => Step::Breach { number, place },
-        Step::At { at, len } => {
-            let found = read_word(text, at, bytes);
-            match found {
-                Found::At(next) => Step::At { at: next, len },
-                Found::Breach(place) => Step::Breach { number: 19, place },
-            }
-        }
-    }
+    let at = read_word(text, step.at, bytes)?;
+    Ok(Step { at, ..step })
 }
 
 // One more word.
-fn push(text: &[u8], words: &mut [u32], step: Step, word: u32) -> Step
-    requires { Room text.now words.old step × Free step }
-    ensures { Pushes text.now words.old words.new word step result }
+fn push(words: &mut [u32], step: Step, word: u32) -> Step
+    requires { step.len < length words.old }
+    ensures { (words.new ≡ set words.old step.len word) × (result.at ≡ step.at) × (result.len ≡ step.len + 1) }
 {
-    match step {
-        Step::Breach { number, place } => Step::Breach { number, place },
-        Step::At { at, len } => {
-            words[len] = word;
-            Step::At { at, len: len + 1 }
-        }
-    }
-}
-
-// The next byte is an `o`.
-fn starts_or(text: &[u8], step: Step) -> bool
-    ensures { result ≡ or_next (state_of text.now [] step) }
-{
-    match step {
-        Step::Breach {
-            number: _,
-            place: _,
-        } => false,
-        Step::At { at, len: _ } => if at < text.len() {
-            text[at] == b'o'
-        } else {
-            false
-        },
+    words[step.len] = word;
+    Step {
+        len: step.len + 1,
+        ..step
     }
 }
 
 // ` and ` or ` or `.
-fn read_joint(text: &[u8], step: Step) -> Joint
-    requires { Fed text.now step }
+fn read_joint(text: &[u8], step: Step) -> Result<Joint, Breach>
+    requires { step.at ≤ length text.now }
     ensures { JointSays text.now step result }
 {
-    let space = skip(text, step, b" ");
-    if starts_or(text, space) {
-        Joint {
-            and: false,
-            step: skip(text, space, b"or "),
-        }
+    let space = skip(text, step, b" ")?;
+    if text.get(space.at) == Some(&b'o') {
+        let step = skip(text, space, b"or ")?;
+        Ok(Joint { and: false, step })
     } else {
-        Joint {
-            and: true,
-            step: skip(text, space, b"and "),
-        }
+        let step = skip(text, space, b"and ")?;
+        Ok(Joint { and: true, step })
     }
 }
 
-// What a condition that stands at a step begins with.
-fn begins(text: &[u8], step: Step) -> Opening
-    ensures { result ≡ opening_of (state_of text.now [] step) }
+// What a condition at a place begins with.
+fn begins(text: &[u8], at: usize) -> Opening
+    ensures { result ≡ opening_of (drop at text.now) }
 {
-    match step {
-        Step::Breach {
-            number: _,
-            place: _,
-        } => Opening::Other,
-        Step::At { at, len: _ } => {
-            if text.len() <= at {
-                return Opening::Other;
-            }
-            letter(text[at])
-        }
-    }
-}
-
-fn letter(b: u8) -> Opening
-    ensures { result ≡ letter_of b }
-{
-    if b == b'r' {
-        return Opening::Returns;
-    }
-    if b == b'x' {
-        return Opening::Ends;
-    }
-    if b == b'n' {
-        return Opening::Not;
-    }
-    if b == b'(' {
-        return Opening::Bracket;
-    }
-    Opening::Other
-}
-
-// A breach here, unless there was one before.
-fn halt(text: &[u8], step: Step, number: u8) -> Step
-    requires { Fed text.now step }
-    ensures { Halts text.now number step result }
-{
-    match step {
-        Step::Breach {
-            number: first,
-            place,
-        } => Step::Breach {
-            number: first,
-            place,
-        },
-        Step::At { at, len: _ } => Step::Breach { number, place: at },
+    match text.get(at) {
+        Some(b'r') => Opening::Returns,
+        Some(b'x') => Opening::Ends,
+        Some(b'n') => Opening::Not,
+        Some(b'(') => Opening::Bracket,
+        _ => Opening::Other,
     }
 }
 
@@ -248,64 +170,35 @@ fn node(returned: bool, k: u32, v: u32) -> u32
     requires { (k ≤ max_number) × (v ≤ max_value) }
     ensures { code (atom_of returned k v) ≡ result ∷ [] }
 {
-    if returned {
-        RETURNS + 256 * k + 65536 * v
-    } else {
-        ENDS + 256 * k + 65536 * v
-    }
+    let kind = if returned { RETURNS } else { ENDS };
+    kind + 256 * k + 65536 * v
 }
 
 // Behind the letter at `at`: a number, `=` and a value.
-fn read_atom(text: &[u8], at: usize, returned: bool) -> Atom
+fn read_atom(text: &[u8], at: usize, returned: bool) -> Result<Atom, Breach>
     requires { at < length text.now }
     ensures { AtomSays text.now at returned result }
 {
-    let which = read_number(text, at + 1, MAX_NUMBER);
-    match which {
-        Number::Breach(place) => Atom::Breach(place),
-        Number::Got {
-            value: k,
-            next: end,
-        } => {
-            let equals = read_word(text, end, b"=");
-            match equals {
-                Found::Breach(place) => Atom::Breach(place),
-                Found::At(from) => {
-                    let value = read_number(text, from, MAX_VALUE);
-                    match value {
-                        Number::Breach(place) => Atom::Breach(place),
-                        Number::Got { value: v, next } => Atom::Got {
-                            word: node(returned, k, v),
-                            next,
-                        },
-                    }
-                }
-            }
-        }
-    }
+    let which = read_number(text, at + 1, MAX_NUMBER)?;
+    let equals = read_word(text, which.next, b"=")?;
+    let value = read_number(text, equals, MAX_VALUE)?;
+    Ok(Atom {
+        word: node(returned, which.value, value.value),
+        next: value.next,
+    })
 }
 
 // The atom whose letter stands at a step.
-fn put_atom(text: &[u8], step: Step, returned: bool, words: &mut [u32]) -> Step
-    requires { Room text.now words.old step × Inside text.now step }
-    ensures { Goes text.now words.old words.new 0 (compiled (lettered returned)) step result }
+fn put_atom(text: &[u8], step: Step, returned: bool, words: &mut [u32]) -> Result<Step, Breach>
+    requires { Room text.now words.old step × (step.at < length text.now) }
+    ensures { Goes text.now words.old words.new (lettered returned) step result }
 {
-    match step {
-        Step::Breach { number, place } => Step::Breach { number, place },
-        Step::At { at, len } => {
-            let atom = read_atom(text, at, returned);
-            match atom {
-                Atom::Breach(place) => Step::Breach { number: 19, place },
-                Atom::Got { word, next } => {
-                    words[len] = word;
-                    Step::At {
-                        at: next,
-                        len: len + 1,
-                    }
-                }
-            }
-        }
-    }
+    let atom = read_atom(text, step.at, returned)?;
+    let behind = Step {
+        at: atom.next,
+        ..step
+    };
+    Ok(push(words, behind, atom.word))
 }
 
 // The word of a connective whose right side takes `n` words.
@@ -313,66 +206,41 @@ fn joint_word(and: bool, n: usize) -> u32
     requires { n ≤ max_words }
     ensures { result ≡ skip_word (joint_node and) n }
 {
-    if and {
-        AND + 256 * (n as u32)
-    } else {
-        OR + 256 * (n as u32)
-    }
-}
-
-// Puts the word of a connective in its place: `from` is the step before it, `to` the one behind its right side.
-fn mark(words: &mut [u32], from: Step, to: Step, and: bool)
-    requires { Spans words.old from to }
-    ensures { words.new ≡ marked (joint_node and) from to words.old }
-{
-    match to {
-        Step::Breach {
-            number: _,
-            place: _,
-        } => {}
-        Step::At { at: _, len } => match from {
-            Step::Breach {
-                number: _,
-                place: _,
-            } => {}
-            Step::At { at: _, len: place } => {
-                words[place] = joint_word(and, len - place - 1);
-            }
-        },
-    }
+    let kind = if and { AND } else { OR };
+    kind + 256 * (n as u32)
 }
 
 // A condition in which `depth` levels may still begin.
-pub fn read_condition(text: &[u8], step: Step, depth: u8, words: &mut [u32]) -> Step
+pub fn read_condition(text: &[u8], step: Step, depth: u8, words: &mut [u32]) -> Result<Step, Breach>
     requires { Room text.now words.old step }
-    ensures { Goes text.now words.old words.new 0 (compiled (condition depth)) step result }
+    ensures { Goes text.now words.old words.new (condition depth) step result }
 {
-    let first = begins(text, step);
+    let first = begins(text, step.at);
     match first {
-        Opening::Other => halt(text, step, 19),
+        Opening::Other => Err(Breach::Illegal(step.at)),
         Opening::Returns => put_atom(text, step, true, words),
         Opening::Ends => put_atom(text, step, false, words),
         Opening::Not => {
             if depth == 0 {
-                return halt(text, step, 20);
+                return Err(Breach::TooDeep(step.at));
             }
-            let word = skip(text, step, b"not ");
-            let inner = read_condition(text, word, depth - 1, words);
-            push(text, words, inner, NOT)
+            let word = skip(text, step, b"not ")?;
+            let inner = read_condition(text, word, depth - 1, words)?;
+            Ok(push(words, inner, NOT))
         }
         Opening::Bracket => {
             if depth == 0 {
-                return halt(text, step, 20);
+                return Err(Breach::TooDeep(step.at));
             }
-            let open = skip(text, step, b"( ");
-            let left = read_condition(text, open, depth - 1, words);
-            let joint = read_joint(text, left);
-            let between = joint.step;
-            let behind = push(text, words, between, joint_word(joint.and, 0));
-            let right = read_condition(text, behind, depth - 1, words);
-            let close = skip(text, right, b" )");
-            mark(words, between, close, joint.and);
-            close
+            let open = skip(text, step, b"( ")?;
+            let left = read_condition(text, open, depth - 1, words)?;
+            let joint = read_joint(text, left)?;
+            let behind = push(words, joint.step, joint_word(joint.and, 0));
+            let right = read_condition(text, behind, depth - 1, words)?;
+            let close = skip(text, right, b" )")?;
+            let place = joint.step.len;
+            words[place] = joint_word(joint.and, close.len - place - 1);
+            Ok(close)
         }
     }
 }

@@ -1,4 +1,5 @@
 -- The words of a condition, run by the test of its atoms: the condition's truth.
+use mir.Val.{bool_byte}
 use Prim.Native.Nat.{ℕ, suc, ◌+◌, ◌≤◌, ◌<◌}
 use mathlib.Core.Path.{◌≡◌, refl, sym, ap, ap₂, subst, ◌∙◌}
 use mathlib.Core.Bool.{Bool, true, false, cond, not, ◌&&◌, ◌||◌, or-true, or-false, false≢true}
@@ -242,6 +243,11 @@ module _ (facts : List (List ℕ)) (left words gmo kept₀ : List ℕ) where
       GoesOn facts left words gmo kept₀ b kept
   going_end kept d b i l h t f v o c u k =
       let g = h t f v o c u k in (ran t d b i l o c g.0, g.1)
+
+-- a bit as a number
+pub as-number : (b : Bool) → bool_byte b ≡ cond b 1 0
+as-number true = refl
+as-number false = refl
 
 pub starts_first : (words : List ℕ) (b : Bool) (n : ℕ) → b ≡ all plain_word words → n ≡ cond b 1 0 →
     Starts words (0 ∷ 1 ∷ 0 ∷ n ∷ [])

@@ -3,7 +3,7 @@
 // their first entries decide of a run is kept.
 #![tactic(auto)]
 
-ghost use Rattle.std.specs.Prelude.{◌/◌, ◌%◌, ◌≤◌, ◌≡◌, cond, not, ◌&&◌, eqb, leb, length, take};
+ghost use Rattle.std.specs.Prelude.{◌/◌, ◌%◌, ◌≤◌, ◌≡◌, not, ◌&&◌, eqb, leb, length, take};
 ghost use Rattle.lists.specs.Lists.{all};
 ghost use Rattle.table.specs.Events.{capacity};
 ghost use Rattle.order_test.specs.Testing.{Fitting};
@@ -131,12 +131,6 @@ const DEPTH: usize = 2;
 
 const PLAIN: usize = 3;
 
-fn digit(bit: bool) -> usize
-    ensures { result ≡ cond bit 1 0 }
-{
-    if bit { 1 } else { 0 }
-}
-
 // An atom, or `and`.
 fn is_plain_word(word: u32) -> bool
     ensures { result ≡ plain_word word }
@@ -149,12 +143,10 @@ fn is_plain_word(word: u32) -> bool
 fn is_plain(words: &[u32]) -> bool
     ensures { result ≡ all plain_word words.now }
 {
-    let mut i: usize = 0;
-    while i < words.len() {
-        if !is_plain_word(words[i]) {
+    for word in words {
+        if !is_plain_word(*word) {
             return false;
         }
-        i += 1;
     }
     true
 }
@@ -163,14 +155,14 @@ fn is_plain(words: &[u32]) -> bool
 pub fn first(words: &[u32]) -> [usize; KEPT]
     ensures { Starts words.now result }
 {
-    [0, 1, 0, digit(is_plain(words))]
+    [0, 1, 0, usize::from(is_plain(words))]
 }
 
 fn deeper(a: usize, b: usize) -> usize
     requires { (a ≤ capacity) × (b ≤ capacity) }
     ensures { (a ≤ result) × (b ≤ result) × (result ≤ capacity) }
 {
-    if a < b { b } else { a }
+    a.max(b)
 }
 
 // Keeps a run unless nearly the whole order decides it: most orders that come next differ in their last entries.
@@ -179,7 +171,7 @@ fn note(kept: &mut [usize; KEPT], len: usize, next: usize, bit: bool, depth: usi
     ensures { kept.new ≡ noted kept.old len next bit depth }
 {
     if depth + 1 < len {
-        *kept = [next, digit(bit), depth, kept[PLAIN]];
+        *kept = [next, usize::from(bit), depth, kept[PLAIN]];
     }
 }
 
@@ -230,12 +222,10 @@ fn begins(seen: &[u8; CAPACITY], order: &[u8; CAPACITY], len: usize, n: usize) -
     if len < n {
         return false;
     }
-    let mut i: usize = 0;
-    while i < n {
+    for i in 0..n {
         if order[i] != seen[i] {
             return false;
         }
-        i += 1;
     }
     true
 }
@@ -292,7 +282,7 @@ pub fn is_witness(
     ensures witnesses { Witnesses facts.now words.now (take len order.now) seen.old kept.old result seen.new kept.new }
     ensures seen_len { length seen.new ≡ capacity }
 {
-    if words.len() == 0 {
+    if words.is_empty() {
         return order_test::is_witness(facts, order, len);
     }
     if words[0] == ANY {

@@ -1,21 +1,12 @@
 -- A line that a text is added to, byte by byte.
-use Prim.Native.Nat.{ℕ, ◌+◌, ◌≤◌, ◌<◌}
-use mathlib.Core.List.{List, [], ◌∷◌, ◌++◌, append-nil, append_assoc}
+use Prim.Native.Nat.{ℕ, ◌≤◌}
+use mathlib.Core.List.{List, [], ◌++◌, append-nil, append_assoc}
 use mathlib.Core.Path.{◌≡◌, sym, ap, ◌∙◌, subst}
-use lib.ListN.{length, get_or, take, set, length-append}
-use lib.Seq.{take-suc, take-suc-set, take_all}
-use native.Mathlib.Numerals.{add-one}
+use lib.ListN.{length, take, length-append}
+use lib.Seq.{take_all}
 use native.Mathlib.Omega.{arith}
 use Rattle.console.specs.declared.line.Line.{Line}
 use Rattle.console.specs.Lines.{room, kept, AddsTo}
-
--- At first nothing of the text is there.
-pub begun : (xs : List ℕ) (n : ℕ) → (n ≡ n + 0) × (take n xs ≡ take n xs ++ [])
-begun xs n = (omega arith, sym (append-nil (take n xs)))
-
--- One more byte of the text.
-pub grown : (xs ys text : List ℕ) (n i : ℕ) → n < length xs → i < length text → take n xs ≡ ys ++ take i text → take (n + 1) (set xs n (get_or text i 0)) ≡ ys ++ take (i + 1) text
-grown xs ys text n i h k e = rw (add-one n, add-one i, take-suc-set xs n (get_or text i 0) h, take-suc text i 0 k, e) (append_assoc ys (take i text) (get_or text i 0 ∷ []))
 
 -- At last all of it is.
 pub whole : (xs ys text : List ℕ) (n i : ℕ) → length text ≤ i → take n xs ≡ ys ++ take i text → take n xs ≡ ys ++ text

@@ -13,32 +13,15 @@ pub enum Command {
 // An argument that is longer is known to no program, and isn't shown.
 const LONGEST: usize = 256;
 
-pub fn same(a: &[u8], b: &[u8]) -> bool {
-    if a.len() != b.len() {
-        return false;
-    }
-    let mut i: usize = 0;
-    while i < a.len() {
-        if a[i] != b[i] {
-            return false;
-        }
-        i += 1;
-    }
-    true
-}
-
 pub fn asked(rt: &HostRuntime) -> Command {
     let mut word = [0u8; LONGEST];
     match rt.arg(1, &mut word) {
         Err(FillError::NotPresent) => Command::Run,
         Err(FillError::TooLong) => Command::Unknown,
-        Ok(n) => {
-            if same(&word[..n], b"--help") | same(&word[..n], b"-h") {
-                Command::Help
-            } else {
-                Command::Unknown
-            }
-        }
+        Ok(n) => match &word[..n] {
+            b"--help" | b"-h" => Command::Help,
+            _ => Command::Unknown,
+        },
     }
 }
 

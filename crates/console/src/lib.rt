@@ -9,11 +9,11 @@ mod stdin;
 
 ghost use Rattle.std.specs.Prelude.{◌≡◌, take, drop};
 
-pub use arguments::{Command, asked, same, unknown_argument};
+pub use arguments::{Command, asked, unknown_argument};
 pub use line::{File, Line};
 pub use rows::row;
 use std::io;
-pub use stdin::{Filled, Input, byte, byte_or_zero, fill, fill_to, read, word};
+pub use stdin::{byte, byte_or_zero, fill, fill_to, read, word};
 
 // Prints a text; an error if it was lost.
 pub fn print(rt: &HostRuntime, text: &[u8]) -> io::Result<()> {
@@ -30,26 +30,16 @@ pub fn output_failed(rt: &HostRuntime, program: &[u8], e: io::Error) {
     failed::say(rt, program, b": standard output: ", e);
 }
 
-pub fn wide(x: u8) -> u64
-    ensures { result ≡ x }
-{
-    x as u64
-}
-
 // The first n bytes, as far as there are so many.
 pub fn front(bytes: &[u8], n: usize) -> &[u8]
     ensures { result.now ≡ take n bytes.now }
 {
-    if n <= bytes.len() { &bytes[..n] } else { bytes }
+    bytes.get(..n).unwrap_or(bytes)
 }
 
 // What stands past the first n bytes.
 pub fn past(bytes: &[u8], n: usize) -> &[u8]
     ensures { result.now ≡ drop n bytes.now }
 {
-    if n <= bytes.len() {
-        &bytes[n..]
-    } else {
-        &bytes[..0]
-    }
+    bytes.get(n..).unwrap_or_default()
 }

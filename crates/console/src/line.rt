@@ -48,69 +48,53 @@ fn digits_of(k: usize, n: u64, digits: &mut [u8]) -> usize
 }
 
 impl Line {
+    fn empty(file: File) -> Line
+        ensures { result.len ≡ 0 }
+    {
+        Line {
+            file,
+            bytes: [0; ROOM],
+            len: 0,
+            lost: None,
+        }
+    }
+
     // For standard output.
     pub fn output(rt: &HostRuntime) -> Line
         ensures { result.len ≡ 0 }
     {
-        Line {
-            file: File::Output(rt.stdout()),
-            bytes: [0; ROOM],
-            len: 0,
-            lost: None,
-        }
+        Line::empty(File::Output(rt.stdout()))
     }
 
     // For standard error.
     pub fn error(rt: &HostRuntime) -> Line {
-        Line {
-            file: File::Error(rt.stderr()),
-            bytes: [0; ROOM],
-            len: 0,
-            lost: None,
-        }
+        Line::empty(File::Error(rt.stderr()))
     }
 
     // An error if a part of the line was lost.
-    fn write(self) -> Result<()> {
+    fn write(&self) -> Result<()> {
         if let Some(e) = self.lost {
             return Err(e);
         }
-        let bytes = self.bytes;
-        let kept = super::front(&bytes, self.len);
+        let kept = super::front(&self.bytes, self.len);
         match self.file {
             File::Output(file) => file.write_all(kept),
             File::Error(file) => file.write_all(kept),
         }
     }
 
-    pub fn text(self, text: &[u8]) -> Line
+    pub fn text(mut self, text: &[u8]) -> Line
         ensures { AddsTo self text.now result }
     {
-        let mut bytes = self.bytes;
-        let mut len = self.len;
-        let mut lost = self.lost;
-        let mut i: usize = 0;
-        while i < text.len() {
-            if ROOM <= len {
-                let full = Line {
-                    file: self.file,
-                    bytes,
-                    len,
-                    lost,
-                };
-                lost = full.write().err();
-                len = 0;
+        for b in text {
+            if ROOM <= self.len {
+                self.lost = self.write().err();
+                self.len = 0;
             }
-            bytes[len] = text[i];
-            len += 1;
-            i += 1;
+            self.bytes[self.len] = *b;
+            self.len += 1;
         }
-        Line {
-            file: self.file,
-            bytes,
-            len,
-            lost,
-        }
+        self
     }
 
     pub fn number(self, n: u64) -> Line
@@ -125,12 +109,12 @@ impl Line {
     pub fn item(self, text: &[u8], n: u8) -> Line
         ensures { AddsTo self (text.now ++ decimal n) result }
     {
-        self.text(text).number(super::wide(n))
+        self.text(text).number(u64::from(n))
     }
 
     // A text and a value of a location.
     pub fn value(self, text: &[u8], v: u16) -> Line {
-        self.text(text).number(v as u64)
+        self.text(text).number(u64::from(v))
     }
 
     pub fn spaced(self, n: u64) -> Line
@@ -140,16 +124,13 @@ impl Line {
     }
 
     // A space and a number for each byte.
-    pub fn list(self, bytes: &[u8]) -> Line
+    pub fn list(mut self, bytes: &[u8]) -> Line
         ensures { AddsTo self (spaced bytes.now) result }
     {
-        let mut line = self;
-        let mut i: usize = 0;
-        while i < bytes.len() {
-            line = line.spaced(super::wide(bytes[i]));
-            i += 1;
+        for b in bytes {
+            self = self.spaced(u64::from(*b));
         }
-        line
+        self
     }
 
     // Ends the line and writes it; an error if a part of it was lost.

@@ -6,32 +6,19 @@ ghost use Rattle.console.specs.Rows.{row_length, first_row, later_rows, row};
 fn row_length(text: &[u8]) -> usize
     ensures { (result ≡ row_length text.now) × (result ≤ length text.now) }
 {
-    let mut i: usize = 0;
-    while i < text.len() {
-        if text[i] == b'\n' {
-            return i;
-        }
-        i += 1;
-    }
-    i
+    text.iter().position(|b| *b == b'\n').unwrap_or(text.len())
 }
 
 fn first_row(text: &[u8]) -> &[u8]
     ensures { result.now ≡ first_row text.now }
 {
-    let n = row_length(text);
-    &text[..n]
+    super::front(text, row_length(text))
 }
 
 fn later_rows(text: &[u8]) -> &[u8]
     ensures { result.now ≡ later_rows text.now }
 {
-    let n = row_length(text);
-    if n < text.len() {
-        &text[n + 1..]
-    } else {
-        &text[..0]
-    }
+    super::past(text, row_length(text) + 1)
 }
 
 // Row k of the text, counted from 0, without its newline; past the last one an empty row.

@@ -3,91 +3,60 @@ ghost use Rattle.std.specs.Prelude.{◌≤◌, length};
 ghost use Rattle.console.specs.Input.{Holds};
 
 use super::failed;
-use std::io::{Error, Read};
+use std::io::{Read, Result};
 
-// What is held: so many bytes, as many as were asked for or all that the input had left; or a read failed.
-#[derive(Clone, Copy)]
-pub enum Filled {
-    Bytes(usize),
-    Failed(Error),
-}
-
-// Reads behind the bytes held at the front of the buffer until there are `most`, the input ends or a read fails.
-pub fn fill_to(rt: &HostRuntime, buffer: &mut [u8], held: usize, most: usize) -> Filled
+// Reads behind the bytes held at the front of the buffer until there are `most`, the input ends or a read fails. Answers how many
+// are held then.
+pub fn fill_to(rt: &HostRuntime, buffer: &mut [u8], held: usize, most: usize) -> Result<usize>
     requires held_in_bounds { held ≤ length buffer.old }
     requires most_in_bounds { most ≤ length buffer.old }
     ensures { Holds held buffer.old buffer.new result }
 {
     let mut n = held;
     while n < most {
-        match rt.stdin().read(&mut buffer[n..most]) {
-            Err(e) => return Filled::Failed(e),
-            Ok(more) => {
-                if more == 0 {
-                    return Filled::Bytes(n);
-                }
-                n += more;
-            }
+        let more = rt.stdin().read(&mut buffer[n..most])?;
+        if more == 0 {
+            break;
         }
+        n += more;
     }
-    Filled::Bytes(n)
+    Ok(n)
 }
 
 // Reads to the front of the buffer until it is full, the input ends or a read fails.
-pub fn fill(rt: &HostRuntime, buffer: &mut [u8]) -> Filled {
+pub fn fill(rt: &HostRuntime, buffer: &mut [u8]) -> Result<usize> {
     let most = buffer.len();
     fill_to(rt, buffer, 0, most)
 }
 
-// How many bytes were read; none if a read failed, which standard error then says.
-fn count(rt: &HostRuntime, filled: Filled) -> usize {
-    match filled {
-        Filled::Bytes(n) => n,
-        Filled::Failed(e) => {
+// Reads n bytes to the front of the buffer, as far as it and the input go; answers how many: none if a read failed, which
+// standard error then says.
+pub fn read(rt: &HostRuntime, buffer: &mut [u8], n: usize) -> usize {
+    let most = n.min(buffer.len());
+    match fill_to(rt, buffer, 0, most) {
+        Ok(n) => n,
+        Err(e) => {
             failed::say(rt, b"", b"standard input: ", e);
             0
         }
     }
 }
 
-// Reads n bytes to the front of the buffer, as far as it and the input go; answers how many.
-pub fn read(rt: &HostRuntime, buffer: &mut [u8], n: usize) -> usize {
-    if n <= buffer.len() {
-        count(rt, fill(rt, &mut buffer[..n]))
-    } else {
-        count(rt, fill(rt, buffer))
-    }
-}
-
-// A byte of the input, or its end.
-#[derive(Clone, Copy)]
-pub enum Input {
-    Byte(u8),
-    End,
-}
-
-pub fn byte(rt: &HostRuntime) -> Input {
+// A byte of the input; none at its end.
+pub fn byte(rt: &HostRuntime) -> Option<u8> {
     let mut one = [0u8; 1];
-    if read(rt, &mut one, 1) == 1 {
-        Input::Byte(one[0])
-    } else {
-        Input::End
-    }
+    let n = read(rt, &mut one, 1);
+    super::front(&one, n).first().copied()
 }
 
 // The next byte, 0 past the end of the input.
-pub fn byte_or_zero(rt: &HostRuntime) -> u64 {
-    match byte(rt) {
-        Input::Byte(b) => super::wide(b),
-        Input::End => 0,
-    }
+pub fn byte_or_zero(rt: &HostRuntime) -> u8 {
+    byte(rt).unwrap_or(0)
 }
 
 // The next two bytes, the lower first.
-pub fn word(rt: &HostRuntime) -> u64
-    ensures { result ≤ 65535 }
-{
-    let low = byte_or_zero(rt) % 256;
-    let high = byte_or_zero(rt) % 256;
-    low + 256 * high
+pub fn word(rt: &HostRuntime) -> u16 {
+    let low = byte_or_zero(rt);
+    let high = byte_or_zero(rt);
+    u16::from_le_bytes([low, high])
 }

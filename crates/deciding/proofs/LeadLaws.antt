@@ -3,14 +3,14 @@ use Prim.Native.Nat.{ℕ, zero, suc, ◌+◌, ◌-◌, ◌<◌, ◌≤◌}
 use native.Mathlib.Omega.{arith}
 use native.Mathlib.Numerals.{add-one}
 use mathlib.Core.Path.{◌≡◌, refl, sym, ap, subst, ◌∙◌}
-use mathlib.Core.Bool.{Bool, true, false, ◌&&◌, and-false, and-true}
+use mathlib.Core.Bool.{Bool, true, false, ◌&&◌, and-false}
 use mathlib.Core.List.{List, [], ◌∷◌, ◌++◌}
 use lib.ListN.{length, get_or, set, take, drop, length-set, drop_of_length-le}
-use lib.Seq.{length-take-le, take-suc, take-suc-set, take-set-le, take-take, take_at, drop_at, drop-cons}
-use lib.Dec.{leb, ltb, eqb}
-use borrow.Author.Tests.{lt-ltb, le-ltb, ltb-true, ltb-false}
+use lib.Seq.{length-take-le, take-suc, take-suc-set, take_at, drop_at, drop-cons}
+use lib.Dec.{leb, ltb}
+use borrow.Author.Tests.{lt-ltb, ltb-true}
 use Rattle.lists.specs.Ascending.{less}
-use Rattle.lists.proofs.BoolLaws.{and_l, and_r, and_both, not-either, is_false}
+use Rattle.lists.proofs.BoolLaws.{and_l, and_r, and_both, not-either}
 use Rattle.masks.specs.Bit.{bit}
 use Rattle.masks.proofs.BitLaws.{bit_past}
 use Rattle.table.specs.declared.Table.{Table}
@@ -20,9 +20,9 @@ use Rattle.states.specs.Completions.{Told, Reached, Least, LeastAbove, NoneAbove
 use Rattle.states.proofs.ReachedLaws.{accepts-count, reached-ends, reached-left, reached-step, run_length}
 use Rattle.states.proofs.LeastLaws.{less-nil, run-may, run_on, least-end, least_more, tail-above, head-above, any-above, none_above, none_any}
 use Rattle.state_test.specs.Board.{Board, Accepted, Steps}
-use Rattle.deciding.specs.declared.Lead.TheVariants.{On, Nowhere}
+use Rattle.std.specs.Prelude.{Option, Some, None}
 use Rattle.deciding.specs.Memo.{Fruitless}
-use Rattle.deciding.specs.Deciding.{Tells, May, NoneLeads, Lowest, Leads, LeastAmong, Among, LeadsLeast, Above, Next, GoesOn}
+use Rattle.deciding.specs.Deciding.{May, Lowest, Leads, LeastAmong, Among, LeadsLeast, Above, Next, GoesOn}
 use Rattle.deciding.proofs.TryLaws.{stepped}
 
 pub leb-suc : (x k : ℕ) → leb (x + 1) k ≡ ltb x k
@@ -97,12 +97,13 @@ least-of-all {t = t} {s} can b a n ((y ∷ q, run)) false h =
 
 module _ {facts ties : List (List ℕ)} {s : State} {n events at : ℕ} {before after order : List ℕ} where
   -- None of the events leads on.
-  pub leads-nowhere : Leads facts ties before after s n events Nowhere →
+  pub leads-nowhere : (r : Option ℕ) → ((e : ℕ) → r ≡ Some e → ⊥) → Leads facts ties before after s n events r →
       LeadsLeast facts ties before after s n events at order order false
-  leads-nowhere h = record { front = refl; tells = h.tells }
+  leads-nowhere None z h = record { front = refl; tells = h.tells }
+  leads-nowhere (Some e) z h = absurd (z e refl)
 
   -- It is the last event that was left.
-  pub leads-last : {e : ℕ} → at < length order → n ≡ 1 → Leads facts ties before after s n events (On e) → May facts ties s events →
+  pub leads-last : {e : ℕ} → at < length order → n ≡ 1 → Leads facts ties before after s n events (Some e) → May facts ties s events →
       LeadsLeast facts ties before after s n events at order (set order at e) true
   leads-last {e} l o h m = record {
     front = i.front;
@@ -123,7 +124,7 @@ module _ {facts ties : List (List ℕ)} {s : State} {n events at : ℕ} {before 
 
   -- Others are left, and the least run behind it was written.
   pub leads-more : {e can : ℕ} {next : State} {last written : List ℕ} {v : Bool} → at < length order → 1 < n →
-      length written ≡ length order → Leads facts ties before after s n events (On e) → May facts ties s events →
+      length written ≡ length order → Leads facts ties before after s n events (Some e) → May facts ties s events →
       Steps facts s e next → Accepted facts ties next can →
       LeadsLeast facts ties after last next (n - 1) can (at + 1) (set order at e) written v →
       LeadsLeast facts ties before last s n events at order written true

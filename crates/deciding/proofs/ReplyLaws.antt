@@ -1,20 +1,17 @@
 -- What a decision call on a table replies, and what it leaves in the buffer.
-use Prim.Native.Nat.{ℕ, zero, suc, ◌+◌, ◌≤◌, ◌<◌}
+use Prim.Native.Nat.{ℕ, zero, suc, ◌≤◌, ◌<◌}
 use native.Mathlib.Omega.{arith}
 use mathlib.Core.Path.{◌≡◌, refl, sym, ap, subst, ◌∙◌}
 use mathlib.Core.Bool.{Bool, true, false, not, true≢false}
 use mathlib.Core.List.{List, [], ◌∷◌, ◌++◌}
 use mathlib.Core.Option.{Option, none, some as just}
-use lib.ListN.{length, get_or, set, take, drop, replicate, length-replicate, get_or-replicate}
-use lib.Seq.{length-take-le, take_at, get_or-set_same, get_or-set_other}
+use lib.ListN.{length, get_or, take, drop, replicate, length-replicate, get_or-replicate}
+use lib.Seq.{length-take-le, take_at}
 use lib.Count.{ones}
-use lib.Dec.{eqb, ltb}
-use borrow.Author.Tests.{eqb-true, eqb-false, eq-eqb, ne_eqb, ltb-true, ltb-false}
+use lib.Dec.{ltb}
+use borrow.Author.Tests.{eq-eqb, ne_eqb, ltb-true, ltb-false}
 use Rattle.lists.specs.Reply.{Reply, refused, answered}
-use Rattle.lists.specs.Below.{some, below}
-use Rattle.lists.specs.Lists.{keep}
-use Rattle.lists.specs.Ascending.{less}
-use Rattle.masks.specs.Bit.{bit}
+use Rattle.lists.specs.Below.{some}
 use Rattle.table.specs.declared.Table.{Table}
 use Rattle.table.specs.Events.{memory_count}
 use Rattle.refusals.specs.declared.Refusal.TheVariants.{Line}
@@ -24,9 +21,8 @@ use Rattle.order_facts.specs.Facts.{unmet}
 use Rattle.fact_rows.specs.FactRows.{mask, Facts, set_row, unmet_word}
 use Rattle.order_test.proofs.EndLaws.{unmet-mask}
 use Rattle.states.specs.declared.State.{State}
-use Rattle.states.specs.States.{start}
 use Rattle.states.specs.Completions.{Reached, LeastAbove, NoneAbove}
-use Rattle.states.specs.Decisions.{first, next_witness}
+use Rattle.states.specs.Decisions.{next_witness}
 use Rattle.states.proofs.ReachedLaws.{reached-start}
 use Rattle.states.proofs.DecisionLaws.{decision-found, decision-none, decision-unmet}
 use Rattle.search.proofs.CallLaws.{counted, count_small}
@@ -37,16 +33,6 @@ use Rattle.deciding.specs.Memo.{Blank}
 use Rattle.deciding.specs.Deciding.{GoesOn}
 use Rattle.deciding.specs.Replies.{decision_lines, table_decision, MemoAfter, Decides}
 use Rattle.deciding.proofs.MemoLaws.{cleared}
-
--- one word more is 0
-pub clear-more : (memo : List ℕ) (i : ℕ) → ((k : ℕ) → k < i → get_or memo k 0 ≡ 0) → i < length memo →
-    (k : ℕ) → k < i + 1 → get_or (set memo i 0) k 0 ≡ 0
-clear-more memo i h l k m = go (eqb i k) refl
-  where
-    go : (b : Bool) → eqb i k ≡ b → get_or (set memo i 0) k 0 ≡ 0
-    go true q = subst (λ (j : ℕ). get_or (set memo i 0) j 0 ≡ 0) (eqb-true i k q) (get_or-set_same memo i 0 0 l)
-    go false q =
-        get_or-set_other memo i k 0 0 (λ e. eqb-false i k q (sym e)) ∙ h k (omega (arith, m, eqb-false i k q))
 
 -- past its end a list has no word
 past_end : (l : List ℕ) (i : ℕ) → length l ≤ i → get_or l i 0 ≡ 0

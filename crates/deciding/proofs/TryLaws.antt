@@ -1,19 +1,17 @@
 -- Whether a state completes: the events that need be tried, one after the other.
-use Prim.Native.Nat.{ℕ, zero, suc, ◌-◌, ◌<◌, ◌≤◌, ◌^◌}
+use Prim.Native.Nat.{ℕ, zero, suc, ◌-◌, ◌<◌, ◌^◌}
 use native.Mathlib.Omega.{arith}
 use mathlib.Core.Path.{◌≡◌, refl, sym, ap, subst, ◌∙◌}
-use mathlib.Core.Bool.{Bool, true, false, not, ◌&&◌, xor}
+use mathlib.Core.Bool.{Bool, true, false, xor}
 use mathlib.Core.List.{List, [], ◌∷◌}
 use lib.Bits.{bit_xor}
 use lib.Count.{count_trailing_zeros}
 use lib.Pow.{pow_pos}
-use lib.Dec.{eqb, ltb}
+use lib.Dec.{eqb}
 use borrow.Author.Tests.{eqb-true, lt-ltb, ltb-true}
-use Rattle.lists.specs.Lists.{all}
 use Rattle.lists.proofs.BoolLaws.{and_l, is_false, not-either, xor-false}
 use Rattle.lists.proofs.MemberLaws.{has_all}
 use Rattle.masks.specs.Bit.{bit}
-use Rattle.masks.specs.MaskOf.{mask_of}
 use Rattle.masks.proofs.BitLaws.{bit-xor, bit-zero, bit-pow}
 use Rattle.masks.proofs.MaskOfLaws.{mask_lt}
 use Rattle.masks.proofs.PowerLaws.{trailing-lowest, xor-pow}

@@ -1,13 +1,11 @@
 -- What the search by states has told, of every table that has these facts and of whose states the memo tells the truth.
-use Rattle.std.specs.Prelude.{ℕ, ◌<◌, ◌≡◌, Bool, true, false, ◌&&◌, List, [], ◌∷◌, take, drop, ltb}
+use Rattle.std.specs.Prelude.{ℕ, ◌<◌, ◌≡◌, Bool, true, false, ◌&&◌, List, Option, Some, None, ◌∷◌, take, drop, ltb}
 use Rattle.masks.specs.Bit.{bit}
 use Rattle.table.specs.declared.Table.{Table}
 use Rattle.states.specs.declared.State.{State}
 use Rattle.states.specs.States.{accepts, step}
 use Rattle.states.specs.Completions.{Told, Reached, Least, LeastAbove, NoneAbove}
 use Rattle.state_test.specs.Board.{Board}
-use Rattle.deciding.specs.declared.Lead.{Lead}
-use Rattle.deciding.specs.declared.Lead.TheVariants.{On, Nowhere}
 use Rattle.deciding.specs.Memo.{Fruitless}
 
 -- from the state s with n events left the claim holds, and the memo still tells the truth
@@ -33,16 +31,16 @@ pub record Lowest (t : Table) (s : State) (events e : ℕ) : Type 0 where
   pub leads : Told t (step t s e) true
   pub lower : (k : ℕ) → k < e → bit events k ≡ true → Told t (step t s k) false
 
-abbrev pub Leading : Table → State → ℕ → Lead → Type 0
-Leading t s events (On e) = Lowest t s events e
-Leading t s events Nowhere = NoneLeads t s events
+abbrev pub Leading : Table → State → ℕ → Option ℕ → Type 0
+Leading t s events (Some e) = Lowest t s events e
+Leading t s events None = NoneLeads t s events
 
 -- an event that is given is one of them
-abbrev pub Listed : ℕ → Lead → Type 0
-Listed events (On e) = bit events e ≡ true
-Listed events Nowhere = Unit {0}
+abbrev pub Listed : ℕ → Option ℕ → Type 0
+Listed events (Some e) = bit events e ≡ true
+Listed events None = Unit {0}
 
-pub record Leads (facts ties : List (List ℕ)) (before after : List ℕ) (s : State) (n events : ℕ) (r : Lead) : Type 0 where
+pub record Leads (facts ties : List (List ℕ)) (before after : List ℕ) (s : State) (n events : ℕ) (r : Option ℕ) : Type 0 where
   pub listed : Listed events r
   pub tells : Tells facts ties before after s n (λ t. Leading t s events r)
 

@@ -14,7 +14,7 @@ ghost use Rattle.deciding.specs.Replies.{table_decision, MemoAfter, Decides};
 ghost use Rattle.deciding.specs.Deciding.{Completes, May, Leads, LeadsLeast, Above, GoesOn};
 
 use fact_rows::{ROWS, SETS, UNMET};
-use masks::{from, has, lowest_set, one};
+use masks::{Ones, from, has};
 use refusals::Refusal;
 use state_test::{KINDS, MEMORY, TIES};
 use states::State;
@@ -34,7 +34,7 @@ const GOOD: u64 = 4_294_967_296;
 fn word_of(s: State) -> u64
     ensures { result ≡ word_of s }
 {
-    s.good as u64 * GOOD + s.placed as u64
+    u64::from(s.good) * GOOD + u64::from(s.placed)
 }
 
 // Two odd factors that spread the bits of the masks, and the bits of the product that are left out.
@@ -49,8 +49,8 @@ fn slot_of(s: State, len: usize) -> usize
     requires { 0 < len }
     ensures { result < len }
 {
-    let placed = s.placed as u64 * SPREAD_PLACED;
-    let good = s.good as u64 * SPREAD_GOOD;
+    let placed = u64::from(s.placed) * SPREAD_PLACED;
+    let good = u64::from(s.good) * SPREAD_GOOD;
     (((placed ^ good) >> LOW_BITS) % len as u64) as usize
 }
 
@@ -58,7 +58,7 @@ fn slot_of(s: State, len: usize) -> usize
 fn knows(memo: &[u64], s: State) -> bool
     ensures { Knows memo.now s result }
 {
-    if memo.len() == 0 {
+    if memo.is_empty() {
         return false;
     }
     let word = word_of(s);
@@ -69,7 +69,7 @@ fn knows(memo: &[u64], s: State) -> bool
 fn store(memo: &mut [u64], s: State)
     ensures { Stored memo.old s memo.new }
 {
-    if memo.len() == 0 {
+    if memo.is_empty() {
         return;
     }
     let slot = slot_of(s, memo.len());
@@ -97,24 +97,15 @@ fn completes(
         return false;
     }
     let can = state_test::accepted(facts, ties, s);
-    let mut tries = state_test::choice(facts, ties, s, can);
-    while tries != 0 {
-        let e = lowest_set(tries);
+    let tries = state_test::choice(facts, ties, s, can);
+    for e in Ones(tries) {
         let next = state_test::step(facts, s, e as u8);
         if completes(facts, ties, memo, next, left - 1) {
             return true;
         }
-        tries = tries ^ one(e);
     }
     store(memo, s);
     false
-}
-
-// The lowest of some events that leads on.
-#[derive(Clone, Copy)]
-enum Lead {
-    On(u8),
-    Nowhere,
 }
 
 // Of the events, which may be placed, the lowest behind which the state completes.
@@ -125,20 +116,17 @@ fn lowest_leading(
     s: State,
     left: u8,
     events: u32,
-) -> Lead
+) -> Option<u8>
     requires { Boarded facts.now ties.now × May facts.now ties.now s events × (0 < left) }
     ensures { Leads facts.now ties.now memo.old memo.new s left events result }
 {
-    let mut tries = events;
-    while tries != 0 {
-        let e = lowest_set(tries);
+    for e in Ones(events) {
         let next = state_test::step(facts, s, e as u8);
         if completes(facts, ties, memo, next, left - 1) {
-            return Lead::On(e as u8);
+            return Some(e as u8);
         }
-        tries = tries ^ one(e);
     }
-    Lead::Nowhere
+    None
 }
 
 // Writes the least of the runs that begin with one of the events, which may be placed, from `at` on.
@@ -156,19 +144,16 @@ fn least_among(
     ensures { LeadsLeast facts.now ties.now memo.old memo.new s left events
         at order.old order.new result }
 {
-    let led = lowest_leading(facts, ties, memo, s, left, events);
-    match led {
-        Lead::Nowhere => false,
-        Lead::On(e) => {
-            order[at] = e;
-            if 1 < left {
-                let next = state_test::step(facts, s, e);
-                let can = state_test::accepted(facts, ties, next);
-                least_among(facts, ties, memo, next, left - 1, can, order, at + 1);
-            }
-            true
-        }
+    let Some(e) = lowest_leading(facts, ties, memo, s, left, events) else {
+        return false;
+    };
+    order[at] = e;
+    if 1 < left {
+        let next = state_test::step(facts, s, e);
+        let can = state_test::accepted(facts, ties, next);
+        least_among(facts, ties, memo, next, left - 1, can, order, at + 1);
     }
+    true
 }
 
 // The events of a mask that are greater than `x`.
@@ -176,7 +161,7 @@ fn above(m: u32, x: u8) -> u32
     ensures { Above m x result }
 {
     if x < TOP_BIT {
-        from(m, x as u32 + 1)
+        from(m, u32::from(x) + 1)
     } else {
         0
     }
@@ -186,11 +171,7 @@ fn above(m: u32, x: u8) -> u32
 fn is_event(events: u32, x: u8) -> bool
     ensures { result ≡ (ltb x 32 && bit events x) }
 {
-    if x <= TOP_BIT {
-        has(events, x as u32)
-    } else {
-        false
-    }
+    x <= TOP_BIT && has(events, u32::from(x))
 }
 
 // Writes the least run that is greater than the rest of the start, from `at` on.
@@ -232,11 +213,7 @@ fn next(
 fn clear(memo: &mut [u64])
     ensures { Blank memo.new }
 {
-    let mut i: usize = 0;
-    while i < memo.len() {
-        memo[i] = 0;
-        i += 1;
-    }
+    memo.fill(0);
 }
 
 // The answer; a witness stands at the front of the answer buffer.

@@ -9,6 +9,7 @@ ghost use Rattle.decode.specs.Layout.{byte_at, word_at, stored_check};
 ghost use Rattle.decode.specs.Decoded.{record_from, event_at, headed, decoded_as};
 
 use edition::EditionOne;
+use std::array;
 use table::{CAPACITY, Event, LOCATIONS, LocationNo, Table};
 
 pub const MARKER: [u8; 4] = [0x52, 0x56, 0x54, 0x31];
@@ -72,11 +73,6 @@ pub const WORD: usize = 2;
 
 pub const RECORD: usize = 16;
 
-// How many numbers there are of one byte, and of two.
-const BYTES: u16 = 256;
-
-const WORDS: u32 = 65536;
-
 pub fn byte_at(s: &[u8], at: usize) -> u8
     requires { at < length s.now }
     ensures { result ≡ byte_at s.now at }
@@ -89,7 +85,7 @@ pub fn word_at(s: &[u8], at: usize) -> u16
     requires { at + 1 < length s.now }
     ensures { result ≡ word_at s.now at }
 {
-    byte_at(s, at) as u16 + BYTES * byte_at(s, at + 1) as u16
+    u16::from_le_bytes([s[at], s[at + 1]])
 }
 
 // A mask of a table is wider than a mask of a block.
@@ -97,7 +93,7 @@ fn mask_at(s: &[u8], at: usize) -> u32
     requires { at + 1 < length s.now }
     ensures { result ≡ word_at s.now at }
 {
-    word_at(s, at) as u32
+    u32::from(word_at(s, at))
 }
 
 // The record whose first byte is at `at`.
@@ -136,13 +132,7 @@ fn events(s: &[u8]) -> [Event; CAPACITY]
     requires { block_length ≤ length s.now }
     ensures { result ≡ up_to capacity (event_at one s.now) }
 {
-    let mut list = [table::no_event(); CAPACITY];
-    let mut k: usize = 0;
-    while k < CAPACITY {
-        list[k] = event_at(s, k);
-        k += 1;
-    }
-    list
+    array::from_fn(|k| event_at(s, k))
 }
 
 // One value for each location, from `at` on.
@@ -150,13 +140,7 @@ fn values(s: &[u8], at: usize) -> [u16; LOCATIONS]
     requires { at + 2 * max_locations ≤ length s.now }
     ensures { result ≡ up_to max_locations (λ (x : ℕ). word_at s.now (at + 2 * x)) }
 {
-    let mut list = [0u16; LOCATIONS];
-    let mut x: usize = 0;
-    while x < LOCATIONS {
-        list[x] = word_at(s, at + WORD * x);
-        x += 1;
-    }
-    list
+    array::from_fn(|x| word_at(s, at + WORD * x))
 }
 
 // The check that the block states.
@@ -164,7 +148,12 @@ pub fn stored_check(s: &[u8]) -> u32
     requires { block_length ≤ length s.now }
     ensures { result ≡ stored_check s.now }
 {
-    word_at(s, At::CHECK) as u32 + WORDS * word_at(s, At::CHECK + WORD) as u32
+    u32::from_le_bytes([
+        s[At::CHECK],
+        s[At::CHECK + 1],
+        s[At::CHECK + 2],
+        s[At::CHECK + 3],
+    ])
 }
 
 // The header block's fields, with these events.

@@ -10,7 +10,7 @@ ghost use Rattle.refusals.specs.TableLines.{names_wrongly, data_of_non_writer, l
 ghost use Rattle.dependency_lines.specs.Passing.{may_break, reserved_after, after, Clears};
 
 use edition::EditionOne;
-use masks::{lowest_set, one, one_if};
+use masks::{Ones, one_if};
 use table::{Event, EventNo, Kind, Table};
 
 // The events that one of the three masks of `e` names.
@@ -25,10 +25,9 @@ fn some_names_wrongly(t: Table, k: EventNo) -> bool
     requires { k.0 < capacity }
     ensures { result ≡ some capacity (names_wrongly t k.0) }
 {
-    let e = t.events[k.0 as usize];
-    let mut left = named(e);
-    while left != 0 {
-        let m = lowest_set(left);
+    let e = t.events[usize::from(k.0)];
+    let names = named(e);
+    for m in Ones(names) {
         let z = t.events[m as usize];
         if !table::program_order(EventNo(m as u8), z, k, e)
             | (z.kind == Kind::STORE)
@@ -36,7 +35,6 @@ fn some_names_wrongly(t: Table, k: EventNo) -> bool
         {
             return true;
         }
-        left = left ^ one(m);
     }
     false
 }
@@ -52,17 +50,15 @@ fn some_lacks_control(t: Table, k: EventNo) -> bool
     requires { (k.0 < capacity) × (t.count ≤ capacity) }
     ensures { result ≡ some t.count (lacks_control t k.0) }
 {
-    let e = t.events[k.0 as usize];
+    let e = t.events[usize::from(k.0)];
     if e.ctrl == 0 {
         return false;
     }
-    let mut j: u8 = 0;
-    while j < t.count {
-        let z = t.events[j as usize];
+    for j in 0..t.count {
+        let z = t.events[usize::from(j)];
         if table::program_order(k, e, EventNo(j), z) & table::memory(z) & lacks(e.ctrl, z.ctrl) {
             return true;
         }
-        j += 1;
     }
     false
 }
@@ -78,7 +74,7 @@ pub fn line9(t: Table, k: EventNo) -> bool
     requires { (k.0 < capacity) × (t.count ≤ capacity) }
     ensures { result ≡ line9 t k.0 }
 {
-    let e = t.events[k.0 as usize];
+    let e = t.events[usize::from(k.0)];
     some_names_wrongly(t, k) | (!table::writes(e) & (e.data != 0)) | some_lacks_control(t, k)
 }
 
@@ -87,13 +83,11 @@ fn some_paired(t: Table, k: EventNo) -> bool
     requires { (k.0 < capacity) × (t.count ≤ capacity) }
     ensures { result ≡ some t.count (paired_here t k.0) }
 {
-    let e = t.events[k.0 as usize];
-    let mut l: u8 = 0;
-    while l < t.count {
-        if table::paired(t, EventNo(l), k) & table::same_location(t.events[l as usize], e) {
+    let e = t.events[usize::from(k.0)];
+    for l in 0..t.count {
+        if table::paired(t, EventNo(l), k) & table::same_location(t.events[usize::from(l)], e) {
             return true;
         }
-        l += 1;
     }
     false
 }
@@ -102,7 +96,7 @@ pub fn line10(t: Table, k: EventNo) -> bool
     requires { (k.0 < capacity) × (t.count ≤ capacity) }
     ensures { result ≡ line10 t k.0 }
 {
-    if t.events[k.0 as usize].kind == Kind::SC {
+    if t.events[usize::from(k.0)].kind == Kind::SC {
         !some_paired(t, k)
     } else {
         false
@@ -127,14 +121,14 @@ fn may_break(p: Passed, e: Event) -> bool
     lacks(named(e), p.sources)
         | (!table::writes(e) & (e.data != 0))
         | (table::memory(e) & lacks(p.controls, e.ctrl))
-        | ((e.kind == Kind::SC) & (p.reserved != e.location.0 as u16 + 1))
+        | ((e.kind == Kind::SC) & (p.reserved != u16::from(e.location.0) + 1))
 }
 
 fn reserved_after(reserved: u16, e: Event) -> u16
     ensures { result ≡ reserved_after reserved e }
 {
     if e.kind == Kind::LR {
-        return e.location.0 as u16 + 1;
+        return u16::from(e.location.0) + 1;
     }
     if e.kind == Kind::SC {
         return 0;
@@ -167,8 +161,7 @@ pub fn some_may_break(t: Table) -> bool
         reserved: 0,
     };
     let mut harts = [none; EditionOne::HARTS];
-    let mut k: u8 = 0;
-    while k < t.count {
+    for k in 0..t.count {
         let e = t.events[k as usize];
         let h = e.hart as usize;
         if EditionOne::HARTS <= h {
@@ -179,7 +172,6 @@ pub fn some_may_break(t: Table) -> bool
             return true;
         }
         harts[h] = after(p, EventNo(k), e);
-        k += 1;
     }
     false
 }

@@ -1,14 +1,14 @@
--- Laws of lists that are joined, of the values and of the check, set one behind the other.
-use Prim.Native.Nat.{ℕ, zero, suc, ◌+◌, ◌*◌, ◌/◌, ◌%◌, ◌≤◌}
+-- Laws of lists that are joined, and of the values, set one behind the other.
+use Prim.Native.Nat.{ℕ, zero, suc, ◌+◌, ◌*◌, ◌≤◌}
 use mathlib.Core.Path.{◌≡◌, refl, sym, ap, ◌∙◌}
-use mathlib.Core.List.{List, [], ◌∷◌, ◌++◌}
+use mathlib.Core.List.{List, ◌++◌}
 use native.Mathlib.Numerals.{add-one}
 use native.Mathlib.Omega.{arith}
 use lib.ListN.{length, get_or, length-append}
 use lib.Seq.{sets}
 use Rattle.edition.specs.Limits.{max_locations}
 use Rattle.record_bytes.specs.RecordBytes.{two}
-use Rattle.encode.specs.Encoded.{four, joined, value_bytes}
+use Rattle.encode.specs.Encoded.{joined, value_bytes}
 use Rattle.record_bytes.proofs.SetLaws.{sets_more}
 
 -- lists of one length, joined
@@ -40,14 +40,3 @@ unfolding value_bytes
 values-done vs l m at x h k e =
     let q : x ≡ max_locations = omega arith in
     e ∙ ap (λ (n : ℕ). sets l at (joined n (λ y. two (get_or vs y 0)))) q
-
--- a number of four bytes as two of two
-two-twice : (n : ℕ) → two n ++ two (n / 65536) ≡ four n
-two-twice n =
-    let e : n / 65536 / 256 ≡ n / 16777216 = omega arith in
-    ap (λ (k : ℕ). two n ++ (n / 65536 % 256 ∷ k % 256 ∷ [])) e
-
--- the check: its low half, then its high half
-pub sets-check : (l m n : List ℕ) (r s : ℕ) → r ≡ s → m ≡ sets l 508 (two r) → n ≡ sets m 510 (two (r / 65536)) → n ≡ sets l 508 (four s)
-sets-check l m n r s h e f =
-    f ∙ sets_more (two r) (two (r / 65536)) l m 508 510 e refl ∙ ap (sets l 508) (two-twice r ∙ ap four h)

@@ -12,17 +12,11 @@ use decode::{At, MARKER, RECORD, WORD};
 use edition::EditionOne;
 use table::{LOCATIONS, Table};
 
-// How many numbers there are of two bytes.
-const WORDS: u32 = 65536;
-
 fn put_marker(block: &mut [u8])
     requires { length block.old ≡ block_length }
     ensures { block.new ≡ sets block.old 0 marker_bytes }
 {
-    block[0] = MARKER[0];
-    block[1] = MARKER[1];
-    block[2] = MARKER[2];
-    block[3] = MARKER[3];
+    block[..At::EDITION].copy_from_slice(&MARKER);
 }
 
 fn put_counts(block: &mut [u8], t: Table)
@@ -51,10 +45,8 @@ fn put_values(block: &mut [u8], at: usize, values: [u16; LOCATIONS])
     requires { at + 2 * max_locations ≤ length block.old }
     ensures { block.new ≡ sets block.old at (value_bytes values) }
 {
-    let mut x: usize = 0;
-    while x < LOCATIONS {
-        record_bytes::put_word(block, at + WORD * x, values[x] as u32);
-        x += 1;
+    for (x, value) in values.iter().enumerate() {
+        record_bytes::put_word(block, at + WORD * x, u32::from(*value));
     }
 }
 
@@ -63,10 +55,8 @@ fn put_records(block: &mut [u8], t: Table)
     requires { block.old ≡ begun (front t) }
     ensures { block.new ≡ begun (front t ++ records_bytes t) }
 {
-    let mut k: usize = 0;
-    while k < EditionOne::EVENTS {
-        record_bytes::put_record(block, At::RECORDS + RECORD * k, t.events[k]);
-        k += 1;
+    for (k, event) in t.events[..EditionOne::EVENTS].iter().enumerate() {
+        record_bytes::put_record(block, At::RECORDS + RECORD * k, *event);
     }
 }
 
@@ -76,8 +66,7 @@ fn put_check(block: &mut [u8])
     ensures { block.new ≡ sets block.old 508 (four (checksum block.old)) }
 {
     let check = checksum::checksum(&*block);
-    record_bytes::put_word(block, At::CHECK, check);
-    record_bytes::put_word(block, At::CHECK + WORD, check / WORDS);
+    block[At::CHECK..].copy_from_slice(&check.to_le_bytes());
 }
 
 // A block starts as zeros, and the named fields are set.

@@ -2,7 +2,7 @@
 use Prim.Native.Nat.{ℕ, suc, ◌+◌, ◌^◌, ◌≤◌, ◌<◌}
 use native.Mathlib.Omega.{arith}
 use native.Mathlib.Numerals.{add-one}
-use mathlib.Core.Path.{◌≡◌, refl, sym, ap, ◌∙◌}
+use mathlib.Core.Path.{◌≡◌, refl, sym, ap, ◌∙◌, subst}
 use mathlib.Core.Bool.{Bool, true, false, not, ◌&&◌, and-true}
 use mathlib.Core.List.{List, [], ◌∷◌, ◌++◌}
 use lib.ListN.{length, get_or, take, drop, set}
@@ -70,5 +70,7 @@ module _ {preds succs start order : List ℕ} {mem len placed can : ℕ} (readin
   }
 
   -- all are read
-  pub read_all : length start ≤ len → Began preds mem start order len placed can
-  read_all h = record { same = reading.read ∙ take_all len start h; holds = reading.holds }
+  pub read_all : length start ≤ len → Began preds mem start order (length start) placed can
+  read_all h =
+      let e : len ≡ length start = omega arith in
+      subst (λ (n : ℕ). Began preds mem start order n placed can) e (record { same = reading.read ∙ take_all len start h; holds = reading.holds })

@@ -4,7 +4,7 @@ use Prim.Native.Nat.{ℕ, suc, ◌+◌, ◌*◌, ◌/◌, ◌^◌, ◌≤◌, �
 use native.Mathlib.Omega.{arith}
 use native.Mathlib.Numerals.{add-one}
 use native.Mathlib.Nat.{lt_of_le_of_lt}
-use mathlib.Core.Path.{◌≡◌, refl, sym, ap, ap₂, ◌∙◌, subst}
+use mathlib.Core.Path.{◌≡◌, refl, sym, ap, ◌∙◌}
 use mathlib.Core.Bool.{Bool, true, false, cond, not, ◌&&◌, xor}
 use mathlib.Core.List.{List, [], ◌∷◌, ◌++◌, append-eq-nil_iff, cons-ne-nil}
 use mathlib.Core.Logic.{◌⊎◌, inl, inr}
@@ -18,7 +18,7 @@ use Rattle.lists.specs.Lists.{◌∈◌}
 use Rattle.lists.proofs.BoolLaws.{and_l, and_r, and_right, xor-false}
 use Rattle.masks.specs.Bit.{bit}
 use Rattle.masks.specs.MaskOf.{mask_of}
-use Rattle.masks.proofs.BitLaws.{bit-zero, bit-xor, bit-pow, bit_past}
+use Rattle.masks.proofs.BitLaws.{bit-zero, bit-xor, bit-pow}
 use Rattle.masks.proofs.PowerLaws.{ones-or, bit_high, trailing-lowest}
 use Rattle.masks.proofs.WithinLaws.{bit_below, within-le}
 use Rattle.prefixes.specs.Listed.{after}

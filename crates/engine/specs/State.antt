@@ -1,11 +1,10 @@
 -- What the engine's masks and its order stand for, and what its answers say.
-use Rattle.std.specs.Prelude.{ℕ, ◌≡◌, true, false, List, length, take}
+use Rattle.std.specs.Prelude.{ℕ, ◌≡◌, true, false, List, Option, Some, None, length, take}
 use Rattle.std.specs.Int.Count.{ones}
 use Rattle.masks.specs.MaskOf.{mask_of}
 use Rattle.successors.specs.CleanMasks.{slots, clean_by}
+use Rattle.ready_events.specs.declared.Masks.{Masks}
 use Rattle.ready_events.specs.Current.{Current}
-use Rattle.engine.specs.declared.Loaded.{Loaded}
-use Rattle.engine.specs.declared.Loaded.TheVariants.{Ready, Unclean}
 
 -- the first len entries of order are a clean prefix, placed is its mask, and can the mask of the events that may come next
 pub record Holds (preds : List ℕ) (mem : ℕ) (order : List ℕ) (len placed can : ℕ) : Type 0 where
@@ -20,6 +19,7 @@ pub record Began (preds : List ℕ) (mem : ℕ) (start order : List ℕ) (len pl
   pub same : take len order ≡ start
   pub holds : Holds preds mem order len placed can
 
-abbrev pub LoadedAs : List ℕ → ℕ → List ℕ → List ℕ → Loaded → Type 0
-LoadedAs preds mem start order (Ready len placed can) = Began preds mem start order len placed can
-LoadedAs preds mem start order Unclean = clean_by preds mem start ≡ false
+-- a start that isn't clean isn't read
+abbrev pub LoadedAs : List ℕ → ℕ → List ℕ → List ℕ → Option Masks → Type 0
+LoadedAs preds mem start order (Some masks) = Began preds mem start order (length start) masks.placed masks.can
+LoadedAs preds mem start order None = clean_by preds mem start ≡ false

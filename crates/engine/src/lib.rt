@@ -8,14 +8,8 @@ ghost use Rattle.successors.specs.Waiting.{Prepared};
 ghost use Rattle.engine.specs.State.{LoadedAs};
 
 use masks::has;
+use ready_events::Masks;
 use successors::SLOTS;
-
-#[derive(Clone, Copy)]
-pub enum Loaded {
-    // The start stands at the front of the order.
-    Ready { len: usize, placed: u32, can: u32 },
-    Unclean,
-}
 
 // The bits of `m` past bit `e`.
 pub fn past(m: u32, e: u32) -> u32
@@ -29,37 +23,30 @@ pub fn past(m: u32, e: u32) -> u32
 fn may(m: u32, e: u8) -> bool
     ensures { result ≡ bit m e }
 {
-    if (e as usize) < SLOTS {
-        has(m, e as u32)
-    } else {
-        false
-    }
+    usize::from(e) < SLOTS && has(m, u32::from(e))
 }
 
-// Reads a start into the front of `order`, if it is clean. What stands behind it in `order` is of no account.
+// Reads a start into the front of `order`, if it is clean: its masks. What stands behind it in `order` is of no account.
 pub fn load(
     pred: &[u32; SLOTS],
     succ: &[u32; SLOTS],
     mem: u32,
     start: &[u8],
     order: &mut [u8; SLOTS],
-) -> Loaded
+) -> Option<Masks>
     requires { Prepared pred.now succ.now mem × (length order.old ≡ slots) }
     ensures { LoadedAs pred.now mem start.now order.new result }
 {
     let mut placed: u32 = 0;
     let mut can = ready_events::ready_of(pred, mem, 0);
-    let mut len: usize = 0;
-    while len < start.len() {
-        let e = start[len];
+    for (len, &e) in start.iter().enumerate() {
         if !may(can, e) {
-            return Loaded::Unclean;
+            return None;
         }
         order[len] = e;
-        let masks = ready_events::place(pred, succ, mem, e as u32, placed, can);
+        let masks = ready_events::place(pred, succ, mem, u32::from(e), placed, can);
         placed = masks.placed;
         can = masks.can;
-        len += 1;
     }
-    Loaded::Ready { len, placed, can }
+    Some(Masks { placed, can })
 }

@@ -39,22 +39,20 @@ pub fn of_table(t: Table) -> Sets
     let mut reserving: u32 = 0;
     let mut harts = [0u32; HARTS];
     let mut locations = [0u32; LOCATIONS];
-    let mut k: u8 = 0;
-    while k < t.count {
+    for k in 0..t.count {
         let e = t.events[k as usize];
-        readers = readers | one_if(table::reads(e), k);
-        writers = writers | one_if(table::writes(e), k);
+        readers |= one_if(table::reads(e), k);
+        writers |= one_if(table::writes(e), k);
         let flags = synchronization::annotations(t.model, e);
-        acquires = acquires | one_if(synchronization::acquires(flags), k);
-        releases = releases | one_if(synchronization::releases(flags), k);
-        rcscs = rcscs | one_if(synchronization::rcsc(flags), k);
-        reserving = reserving | one_if((e.kind == Kind::LR) | (e.kind == Kind::SC), k);
+        acquires |= one_if(synchronization::acquires(flags), k);
+        releases |= one_if(synchronization::releases(flags), k);
+        rcscs |= one_if(synchronization::rcsc(flags), k);
+        reserving |= one_if((e.kind == Kind::LR) | (e.kind == Kind::SC), k);
         let bit = one(k as u32);
         let h = e.hart as usize;
-        harts[h] = harts[h] | bit;
+        harts[h] |= bit;
         let x = e.location.0 as usize;
-        locations[x] = locations[x] | bit;
-        k += 1;
+        locations[x] |= bit;
     }
     Sets {
         readers,

@@ -1,8 +1,8 @@
 // The verdict for one candidate of standard input, in words.
 #![tactic(auto)]
 
-use console::{Command, Filled, Line};
-use edition::{EditionOne, EditionTwo};
+use console::{Command, Line};
+use edition::EditionTwo;
 use reads_from::{INITIALLY, NOTHING};
 use table::{Event, EventNo, LocationNo, Table};
 use verdict::{Axiom, Verdict};
@@ -53,11 +53,7 @@ fn source(line: Line, w: u8) -> Line {
 
 // The entry of event e in a returned list.
 fn entry(list: &[u8], e: EventNo) -> u8 {
-    if (e.0 as usize) < list.len() {
-        list[e.0 as usize]
-    } else {
-        NOTHING
-    }
+    list.get(usize::from(e.0)).copied().unwrap_or(NOTHING)
 }
 
 fn kind(line: Line, k: u8) -> Line {
@@ -84,7 +80,7 @@ amominu
     line.text(console::row(table, n))
 }
 
-fn written(line: Line, e: Event) -> Line {
+fn written(line: Line, e: &Event) -> Line {
     let value = line.value(b", writes ", e.written);
     if e.operation == 0 {
         value
@@ -95,13 +91,13 @@ fn written(line: Line, e: Event) -> Line {
     }
 }
 
-fn values(line: Line, e: Event) -> Line {
-    let read = if table::reads(e) {
+fn values(line: Line, e: &Event) -> Line {
+    let read = if table::reads(*e) {
         line.value(b", reads ", e.read)
     } else {
         line
     };
-    if table::writes(e) {
+    if table::writes(*e) {
         written(read, e)
     } else {
         read
@@ -109,17 +105,15 @@ fn values(line: Line, e: Event) -> Line {
 }
 
 // Goes on with a line that says what event k is.
-fn describe(line: Line, t: Table, k: EventNo) -> Line {
-    if (k.0 as usize) < table::CAPACITY {
-        let e = t.events[k.0 as usize];
-        let begun = event(line.text(b"\n  "), k)
-            .item(b": hart ", e.hart)
-            .text(b", ");
-        let placed = kind(begun, e.kind).item(b" at location ", e.location.0);
-        values(placed, e)
-    } else {
-        line
-    }
+fn describe(line: Line, t: &Table, k: EventNo) -> Line {
+    let Some(e) = t.events.get(usize::from(k.0)) else {
+        return line;
+    };
+    let begun = event(line.text(b"\n  "), k)
+        .item(b": hart ", e.hart)
+        .text(b", ");
+    let placed = kind(begun, e.kind).item(b" at location ", e.location.0);
+    values(placed, e)
 }
 
 // A rule by its number, and why it orders the two.
@@ -136,10 +130,8 @@ fn rule(line: Line, first: bool, r: u8) -> Line {
 fn rules(line: Line, set: u16) -> Line {
     let mut named = line;
     let mut first = true;
-    let mut r: u8 = 0;
-    while r < RULES {
-        r += 1;
-        if (set >> (r as u32 - 1)) % 2 == 1 {
+    for r in 1..=RULES {
+        if (set >> (r - 1)) % 2 == 1 {
             named = rule(named, first, r);
             first = false;
         }
@@ -147,7 +139,7 @@ fn rules(line: Line, set: u16) -> Line {
     named
 }
 
-fn preserved_order(rt: &HostRuntime, t: Table, a: EventNo, b: EventNo, set: u16) -> Line {
+fn preserved_order(rt: &HostRuntime, t: &Table, a: EventNo, b: EventNo, set: u16) -> Line {
     let first = event(Line::output(rt).text(b"preserved order: "), a).text(b" before ");
     let said = rules(event(first, b), set)
         .item(b", but the order has ", b.0)
@@ -157,7 +149,7 @@ fn preserved_order(rt: &HostRuntime, t: Table, a: EventNo, b: EventNo, set: u16)
 
 fn load_value(
     rt: &HostRuntime,
-    t: Table,
+    t: &Table,
     test: &[u8],
     returned: &[u8],
     order: &[u8],
@@ -172,7 +164,7 @@ fn load_value(
 
 // The other case of the axiom, that what the LR returns from doesn't precede the SC, can't come up once preserved order and
 // load value hold.
-fn atomicity(rt: &HostRuntime, t: Table, returned: &[u8], lr: EventNo, w: EventNo) -> Line {
+fn atomicity(rt: &HostRuntime, t: &Table, returned: &[u8], lr: EventNo, w: EventNo) -> Line {
     let reader = Line::output(rt)
         .item(b"atomicity: LR ", lr.0)
         .text(b" returns from ");
@@ -181,39 +173,34 @@ fn atomicity(rt: &HostRuntime, t: Table, returned: &[u8], lr: EventNo, w: EventN
     describe(describe(said, t, lr), t, w)
 }
 
-fn value_read(rt: &HostRuntime, t: Table, returned: &[u8], r: EventNo) -> Line {
+fn value_read(rt: &HostRuntime, t: &Table, returned: &[u8], r: EventNo) -> Line {
     let reader = event(Line::output(rt).text(b"value read: "), r);
-    if (r.0 as usize) < table::CAPACITY {
-        let e = t.events[r.0 as usize];
-        let w = entry(returned, r);
-        let value = returns::written_value(t, e.location, w);
-        let said = reader
-            .value(b" is stated to read ", e.read)
-            .value(b", but returns ", value)
-            .text(b" from ");
-        describe(source(said, w), t, r)
-    } else {
-        reader
-    }
+    let Some(e) = t.events.get(usize::from(r.0)) else {
+        return reader;
+    };
+    let w = entry(returned, r);
+    let said = reader
+        .value(b" is stated to read ", e.read)
+        .value(b", but returns ", returns::written_value(*t, e.location, w))
+        .text(b" from ");
+    describe(source(said, w), t, r)
 }
 
-fn final_value(rt: &HostRuntime, t: Table, order: &[u8], x: LocationNo) -> Line {
+fn final_value(rt: &HostRuntime, t: &Table, order: &[u8], x: LocationNo) -> Line {
     let location = Line::output(rt).item(b"final value: location ", x.0);
-    if (x.0 as usize) < EditionOne::LOCATIONS {
-        let stated = t.finals[x.0 as usize];
-        let value = returns::final_value(t, order, x);
-        location
-            .value(b" is stated to end at ", stated)
-            .value(b", but the order leaves ", value)
-    } else {
-        location
-    }
+    let Some(stated) = t.finals.get(usize::from(x.0)) else {
+        return location;
+    };
+    location.value(b" is stated to end at ", *stated).value(
+        b", but the order leaves ",
+        returns::final_value(*t, order, x),
+    )
 }
 
 fn broken(
     rt: &HostRuntime,
     axiom: Axiom,
-    t: Table,
+    t: &Table,
     test: &[u8],
     returned: &[u8],
     order: &[u8],
@@ -227,7 +214,7 @@ fn broken(
     }
 }
 
-fn verdict(rt: &HostRuntime, t: Table, test: &[u8], returned: &[u8], order: &[u8]) -> Line {
+fn verdict(rt: &HostRuntime, t: &Table, test: &[u8], returned: &[u8], order: &[u8]) -> Line {
     match bench::verdict(test, returned, order) {
         Verdict::Refused(r) => words::explained(Line::output(rt), r),
         Verdict::Broken(axiom) => broken(rt, axiom, t, test, returned, order),
@@ -243,10 +230,10 @@ fn candidate(rt: &HostRuntime, input: &[u8]) {
     let test = suite_walk::test(input, 0);
     let lists = console::past(input, test.len());
     let t = bench::read(test).table;
-    let n = t.count as usize;
+    let n = usize::from(t.count);
     let said = verdict(
         rt,
-        t,
+        &t,
         test,
         console::front(lists, n),
         console::past(lists, n),
@@ -259,14 +246,9 @@ fn candidate(rt: &HostRuntime, input: &[u8]) {
 fn explain(rt: &HostRuntime) {
     let mut buffer = [0u8; INPUT];
     match console::fill(rt, &mut buffer) {
-        Filled::Failed(e) => console::input_failed(rt, b"explain", e),
-        Filled::Bytes(n) => {
-            if n == 0 {
-                usage(rt);
-            } else {
-                candidate(rt, console::front(&buffer, n));
-            }
-        }
+        Err(e) => console::input_failed(rt, b"explain", e),
+        Ok(0) => usage(rt),
+        Ok(n) => candidate(rt, console::front(&buffer, n)),
     }
 }
 

@@ -6,7 +6,7 @@ ghost use Rattle.table.specs.Events.{capacity};
 ghost use Rattle.order_facts.specs.Facts.{own_writer, needed, here, peers};
 ghost use Rattle.fact_rows.specs.Around.{Row, GuardRow, RereadRow, PairRow, WindowRow, GroundRow, Stating};
 
-use masks::{from, highest_set, less, lowest_set, mask_if, one, under};
+use masks::{Ones, from, highest_set, less, lowest_set, mask_if, one, under};
 use table::{CAPACITY, Event, Kind};
 
 // The rows of the facts: for each event the mask of those that its word says (crate `order_facts`).
@@ -202,12 +202,8 @@ pub fn right_row(stated: &[u16; CAPACITY], readers: u32, value: u16) -> u32
     ensures { Stating stated.now readers value result }
 {
     let mut mask: u32 = 0;
-    let mut left = readers;
-    while left != 0 {
-        let r = lowest_set(left);
-        let bit = one(r);
-        mask = mask | mask_if(stated[r as usize] == value, bit);
-        left = left ^ bit;
+    for r in Ones(readers) {
+        mask |= mask_if(stated[r as usize] == value, one(r));
     }
     mask
 }

@@ -68,16 +68,14 @@ fn look(t: Table, s: Sets) -> Seen
     let mut values = [0u16; CAPACITY];
     let mut good: u32 = 0;
     let mut wrong: u32 = 0;
-    let mut e: u8 = 0;
-    while e < t.count {
+    for e in 0..t.count {
         let x = t.events[e as usize];
         let a = around(s, t.count, e, x);
         window[e as usize] = window_row(a, s.reserving);
         values[e as usize] = x.read;
         let k = x.location.0 as usize;
-        good = good | one_if(!table::reads(x) | (t.initial[k] == x.read), e);
-        wrong = wrong | one_if(writes_stated(t.stated, x) & (x.written != t.finals[k]), e);
-        e += 1;
+        good |= one_if(!table::reads(x) | (t.initial[k] == x.read), e);
+        wrong |= one_if(writes_stated(t.stated, x) & (x.written != t.finals[k]), e);
     }
     Seen {
         window,
@@ -93,10 +91,8 @@ fn filled(rows: &[u32; CAPACITY], count: u8) -> u32
     ensures { result ≡ mask_of (keep (λ e. not (eqb (get_or rows.now e 0) 0)) (below count)) }
 {
     let mut mask: u32 = 0;
-    let mut e: u8 = 0;
-    while e < count {
-        mask = mask | one_if(rows[e as usize] != 0, e);
-        e += 1;
+    for e in 0..count {
+        mask |= one_if(rows[e as usize] != 0, e);
     }
     mask
 }
@@ -107,13 +103,11 @@ fn unmet_word(t: Table, s: Sets) -> u32
     ensures { result ≡ mask_of (keep (unmet t) (below t.locations)) }
 {
     let mut mask: u32 = 0;
-    let mut x: u8 = 0;
-    while x < t.locations {
+    for x in 0..t.locations {
         let k = x as usize;
         let unwritten = (s.writers & s.locations[k]) == 0;
         let differs = t.initial[k] != t.finals[k];
-        mask = mask | one_if(has(t.stated as u32, x as u32) & unwritten & differs, x);
-        x += 1;
+        mask |= one_if(has(t.stated as u32, x as u32) & unwritten & differs, x);
     }
     mask
 }
@@ -144,8 +138,7 @@ pub fn of_table(t: Table, s: Sets) -> [[u32; CAPACITY]; ROWS]
     let mut here = [0u32; CAPACITY];
     let mut right = [0u32; CAPACITY];
     let mut peers = [0u32; CAPACITY];
-    let mut e: u8 = 0;
-    while e < t.count {
+    for e in 0..t.count {
         let k = e as usize;
         let x = t.events[k];
         let a = around(s, t.count, e, x);
@@ -157,7 +150,6 @@ pub fn of_table(t: Table, s: Sets) -> [[u32; CAPACITY]; ROWS]
         here[k] = readers;
         right[k] = right_row(&stated, readers, x.written);
         peers[k] = peer_row(a);
-        e += 1;
     }
     let sets = words(seen.good, seen.wrong, unmet_word(t, s));
     // The rows that only texts have.

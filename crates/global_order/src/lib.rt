@@ -11,13 +11,11 @@ pub fn before(gmo: &[u8], a: EventNo, b: EventNo) -> bool
     ensures { result ≡ before gmo.now a.0 b.0 }
 {
     let mut seen = false;
-    let mut i = 0;
-    while i < gmo.len() {
-        if seen & (b.0 == gmo[i]) {
+    for &w in gmo {
+        if seen & (b.0 == w) {
             return true;
         }
-        seen = seen | (a.0 == gmo[i]);
-        i += 1;
+        seen |= a.0 == w;
     }
     false
 }

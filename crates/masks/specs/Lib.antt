@@ -1,3 +1,4 @@
 pub mod Bit
 pub mod MaskOf
 pub mod Parts
+pub mod Ones

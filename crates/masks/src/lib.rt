@@ -5,7 +5,9 @@ ghost use Rattle.std.specs.Prelude.{◌<◌, ◌^◌, ◌≡◌, cond, eqb};
 ghost use Rattle.std.specs.Int.Bits.{bit_and, bit_xor};
 ghost use Rattle.std.specs.Int.Count.{count_trailing_zeros};
 ghost use Rattle.masks.specs.Bit.{bit};
+ghost use Rattle.masks.specs.Ones.{TakesLowest};
 ghost use Rattle.masks.specs.Parts.{from, under, highest};
+ghost use Rattle.std.specs.Iterator.{at_most};
 
 // The mask of bit `e` alone.
 pub fn one(e: u32) -> u32
@@ -84,4 +86,25 @@ pub fn within(a: u32, b: u32) -> bool
     ensures { result ≡ eqb (bit_and a b) a }
 {
     (a & b) == a
+}
+
+// The bits that are set in a mask, the lowest first.
+#[derive(Clone, Copy)]
+pub struct Ones(pub u32);
+
+impl Iterator for Ones {
+    type Item = u32;
+
+    ghost next_gives = { TakesLowest };
+
+    ghost remaining = { λ s. at_most s.0 };
+
+    fn next(&mut self) -> Option<u32> {
+        if self.0 == 0 {
+            return None;
+        }
+        let e = lowest_set(self.0);
+        self.0 ^= one(e);
+        Some(e)
+    }
 }

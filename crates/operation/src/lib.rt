@@ -24,54 +24,46 @@ impl Operation {
     pub const MINU: u8 = 6;
 }
 
-// How many values there are.
-const VALUES: u32 = 65_536;
-
 fn add(value: u16, operand: u8) -> u16
     ensures { result ≡ added value operand }
 {
-    ((value as u32 + operand as u32) % VALUES) as u16
+    value.wrapping_add(u16::from(operand))
 }
 
 fn and(value: u16, operand: u8) -> u16
     ensures { result ≡ anded value operand }
 {
-    value & operand as u16
+    value & u16::from(operand)
 }
 
 fn or(value: u16, operand: u8) -> u16
     ensures { result ≡ ored value operand }
 {
-    value | operand as u16
+    value | u16::from(operand)
 }
 
 fn xor(value: u16, operand: u8) -> u16
     ensures { result ≡ xored value operand }
 {
-    value ^ operand as u16
+    value ^ u16::from(operand)
 }
 
+#[tactic(auto, unfolding(crate::specs::Operation::larger))]
 fn maxu(value: u16, operand: u8) -> u16
     ensures { result ≡ larger value operand }
 {
-    if value < operand as u16 {
-        operand as u16
-    } else {
-        value
-    }
+    value.max(u16::from(operand))
 }
 
+#[tactic(auto, unfolding(crate::specs::Operation::smaller))]
 fn minu(value: u16, operand: u8) -> u16
     ensures { result ≡ smaller value operand }
 {
-    if (operand as u16) < value {
-        operand as u16
-    } else {
-        value
-    }
+    value.min(u16::from(operand))
 }
 
 // The value written.
+#[tactic(auto, unfolding(crate::specs::Operation::applied))]
 pub fn apply(operation: u8, value: u16, operand: u8) -> u16
     ensures { result ≡ applied operation value operand }
 {

@@ -8,11 +8,11 @@ use mathlib.Core.List.{List, ◌∷◌, ◌++◌}
 use lib.ListN.{length, get_or, take, drop, take-append-drop, drop_of_length-le}
 use lib.Seq.{drop-cons, drop-drop, length-take-le}
 use lib.Bits.{bit_and, bit_xor}
-use lib.Dec.{eqb, ltb}
-use borrow.Author.Tests.{ne_eqb, eqb-true, lt-ltb}
+use lib.Dec.{eqb}
+use borrow.Author.Tests.{ne_eqb}
 use Rattle.lists.specs.Below.{below, some}
 use Rattle.lists.specs.Lists.{keep}
-use Rattle.lists.proofs.BoolLaws.{and_both, not-either, is_false, is_true}
+use Rattle.lists.proofs.BoolLaws.{not-either, is_false}
 use Rattle.lists.proofs.SomeLaws.{some_at, some-none, some_same, some_more}
 use Rattle.masks.specs.Bit.{bit}
 use Rattle.masks.specs.MaskOf.{mask_of}
@@ -113,8 +113,8 @@ module _ (facts : List (List ℕ)) (order : List ℕ) (len : ℕ) where
       )
 
     -- No wrong writer is left, or no entry.
-    pub end_none : (i left : ℕ) → Undecided i left → (not (eqb left 0) && ltb 0 i) ≡ false → Judges facts gmo final_values true
-    end_none i left u z t f o c = sym (u.2 t f o c ∙ ap not (some-none i (spoils_at t) each))
+    pub end_none : (i left : ℕ) → Undecided i left → (0 < i → left ≡ 0) → Judges facts gmo final_values true
+    end_none i left u empty t f o c = sym (u.2 t f o c ∙ ap not (some-none i (spoils_at t) each))
       where
         -- behind entry j are those from i on
         further : (j : ℕ) → j < i → drop (suc j) gmo ≡ take (i - suc j) (drop (suc j) gmo) ++ drop i gmo
@@ -123,9 +123,6 @@ module _ (facts : List (List ℕ)) (order : List ℕ) (len : ℕ) where
             sym (take-append-drop (i - suc j) (drop (suc j) gmo))
             ∙ ap (λ (s : List ℕ). take (i - suc j) (drop (suc j) gmo) ++ s)
             (drop-drop (i - suc j) (suc j) gmo ∙ ap (λ (k : ℕ). drop k gmo) e)
-
-        empty : 0 < i → left ≡ 0
-        empty l = eqb-true left 0 (is_true _ (λ n. not-either _ (and_both _ _ (ap not n) (lt-ltb 0 i l)) z))
 
         each : (j : ℕ) → j < i → spoils_at t j ≡ false
         each j l = is_false _ (λ h.

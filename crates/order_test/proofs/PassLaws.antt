@@ -4,7 +4,7 @@ use native.Mathlib.Omega.{arith}
 use native.Mathlib.Numerals.{add-one}
 use mathlib.Core.Path.{◌≡◌, refl, sym, ap, ap₂, subst, ◌∙◌, fun_ext}
 use mathlib.Core.Bool.{Bool, true, false, ◌&&◌, and-true}
-use mathlib.Core.List.{List, [], ◌∷◌, ◌++◌}
+use mathlib.Core.List.{List, [], ◌∷◌}
 use lib.ListN.{length, get_or, take}
 use lib.Seq.{take-take, take-suc, get_or-take, length-take-le}
 use lib.Bits.{bit_and, bit_or, bit_xor, or_zero_l}
@@ -96,35 +96,51 @@ module _ (facts : List (List ℕ)) (order : List ℕ) (len : ℕ) where
         fun_ext (λ a. ap (has a) (take-take i len order (omega arith)) ∙ sym (mask-has (take i order) a)
         ∙ ap (λ (m : ℕ). bit m a) (sym s.1))
 
+  -- The same of what is read of the order's front by itself.
+  module _ (fit : Fitting order len) (i : ℕ) (l : i < length gmo) where
+    inside : i < len
+    inside = omega (arith, length-take-le len order (omega (arith, fit.long, fit.within)))
+
+    abbrev e : ℕ
+    e = get_or gmo i 0
+
+    pub item-room : e < capacity
+    item-room = rw (entry-is fit i inside) (entry-room fit i inside)
+
+    pub item-event : (t : Table) → is_order t gmo ≡ true → e < t.count
+    item-event t o = rw (entry-is fit i inside) (entry-event fit i inside t o)
+
+    pub item-placed : (placed b : ℕ) → Placed i placed → b ≡ 2 ^ e → Placed (i + 1) (bit_or placed b)
+    item-placed placed b s q = placed-more fit i inside placed b s (q ∙ ap (λ (x : ℕ). 2 ^ x) (entry-is fit i inside))
+
     -- what is told of the entry by the mask is the test at its place
     pub lawful-told : (placed : ℕ) (r : Bool) → Placed i placed →
-        Tells facts (get_or order i 0) (λ t. may_place t (bit placed) (get_or order i 0)) r → Always (λ t. r ≡ lawful_at t gmo i)
+        Tells facts e (λ t. may_place t (bit placed) e) r → Always (λ t. r ≡ lawful_at t gmo i)
     unfolding lawful_at
     lawful-told placed r s h t f o c =
-        h t f (entry-event t o) ∙ ap₂ (may_place t) (sym (among-mask placed s)) (sym entry-is)
+        h t f (item-event t o) ∙ ap (λ (p : ℕ → Bool). may_place t p e) (sym (among-mask fit i inside placed s))
 
     -- the same of all that is asked of an entry of a witness
     pub witness-told : (placed now : ℕ) (r : Bool) → Placed i placed → Good i now →
-        TellsGood facts now (get_or order i 0) (standing facts placed (get_or order i 0)) r → Always (λ t. r ≡ witness_at t gmo i)
+        TellsGood facts now e (standing facts placed e) r → Always (λ t. r ≡ witness_at t gmo i)
     unfolding witness_at lawful_at stated_at
     witness-told placed now r s g h t f o c =
-        h t f (entry-event t o) (final_value t (take i gmo)) (g t f o c)
-        ∙ ap₂ (λ (p : ℕ → Bool) (e : ℕ). may_place t p e && reads_stated t p (final_value t (take i gmo)) e)
-        (sym (among-mask placed s)) (sym entry-is)
+        h t f (item-event t o) (final_value t (take i gmo)) (g t f o c)
+        ∙ ap (λ (p : ℕ → Bool). may_place t p e && reads_stated t p (final_value t (take i gmo)) e)
+        (sym (among-mask fit i inside placed s))
 
     pub good-next : (now next : ℕ) → Good i now →
-        next ≡ bit_or (bit_xor now (bit_and now (mask facts here_row (get_or order i 0)))) (mask facts right_row (get_or order i 0)) →
+        next ≡ bit_or (bit_xor now (bit_and now (mask facts here_row e))) (mask facts right_row e) →
         Good (i + 1) next
     good-next now next g q t f o c =
-        let n = entry-event t o in
+        let n = item-event t o in
         q ∙ ap₂ (λ (x y : ℕ). bit_or (bit_xor now (bit_and now x)) y) (mask_is f here_row (here t) f.here _ n)
         (mask_is f right_row (right t) f.right _ n)
-        ∙ ap (λ (x : ℕ). bit_or (bit_xor x (bit_and x (mask_by t (here t (get_or order i 0))))) (mask_by t (right t (get_or order i 0))))
+        ∙ ap (λ (x : ℕ). bit_or (bit_xor x (bit_and x (mask_by t (here t e)))) (mask_by t (right t e)))
         (g t f o c)
-        ∙ sym (good_more t f.table.small (take i gmo) (get_or order i 0) n)
+        ∙ sym (good_more t f.table.small (take i gmo) e n)
         ∙ ap (λ (p : List ℕ). mask_by t (good t (final_value t p)))
-        (ap (λ (e : ℕ). take i gmo ++ (e ∷ [])) (sym entry-is) ∙ sym (take-suc gmo i 0 (omega (arith, long)))
-        ∙ ap (λ (n : ℕ). take n gmo) (sym (add-one i)))
+        (sym (take-suc gmo i 0 l) ∙ ap (λ (n : ℕ). take n gmo) (sym (add-one i)))
 
   -- A test that is one of every entry.
   module _ (test : Table → List ℕ → ℕ → Bool) where
@@ -143,11 +159,10 @@ module _ (facts : List (List ℕ)) (order : List ℕ) (len : ℕ) where
         go false e = s j (omega (arith, eqb-false j i e)) t f o c
 
     module _ (judge : Table → List ℕ → Bool) (each : Always (λ t. judge t gmo ≡ every (length gmo) (test t gmo))) where
-      pub pass-fails : Fitting order len → (i : ℕ) (r : Bool) → i < len → Always (λ t. r ≡ test t gmo i) → r ≡ false →
+      pub pass-fails : (i : ℕ) (r : Bool) → i < length gmo → Always (λ t. r ≡ test t gmo i) → r ≡ false →
           Judges facts gmo judge false
-      pass-fails fit i r l h q t f o c =
-          sym (each t f o c ∙ is_false _ (λ a.
-          not-either _ (every-at (length gmo) (test t gmo) i a (omega (arith, long fit i l))) (sym (h t f o c) ∙ q)))
+      pass-fails i r l h q t f o c =
+          sym (each t f o c ∙ is_false _ (λ a. not-either _ (every-at (length gmo) (test t gmo) i a l) (sym (h t f o c) ∙ q)))
 
       pub pass-end : (i : ℕ) → length gmo ≤ i → Passing i → Judges facts gmo judge true
       pass-end i l s t f o c = sym (each t f o c ∙ at_every (length gmo) (test t gmo) (λ j k. s j (omega arith) t f o c))

@@ -16,7 +16,7 @@ ghost use Rattle.order_test.specs.Testing.{Tells, TellsGood, Judges, Fitting, re
 use fact_rows::{
     GOOD, GROUND, GUARDS, HERE, NEEDS, OWN, PEERS, RIGHT, ROWS, SETS, UNMET, WINDOW, WRONG,
 };
-use masks::{has, highest_set, less, lowest_set, one, within};
+use masks::{Ones, has, highest_set, less, one, within};
 use table::CAPACITY;
 
 // `e` may be placed as a reader: all its own writers are, or what their latest needs before it is returned from.
@@ -39,9 +39,9 @@ pub fn reads_stated(facts: &[[u32; CAPACITY]; ROWS], placed: u32, good: u32, e: 
 {
     let missing = less(facts[OWN][e as usize], placed);
     if missing == 0 {
-        return has(good, e as u32);
+        return has(good, u32::from(e));
     }
-    has(facts[RIGHT][highest_set(missing) as usize], e as u32)
+    has(facts[RIGHT][highest_set(missing) as usize], u32::from(e))
 }
 
 // The window of `v`, which isn't placed, is open.
@@ -59,13 +59,11 @@ fn may_write(facts: &[[u32; CAPACITY]; ROWS], placed: u32, e: u8) -> bool
     requires { e < capacity }
     ensures { Tells facts.now e (λ t. not (writes t e) || may_write t (bit placed) e) result }
 {
-    let mut left = less(facts[GUARDS][e as usize], placed);
-    while left != 0 {
-        let v = lowest_set(left);
+    let guards = less(facts[GUARDS][e as usize], placed);
+    for v in Ones(guards) {
         if is_open(facts, placed, v) {
             return false;
         }
-        left = left ^ one(v);
     }
     true
 }
@@ -75,11 +73,7 @@ pub fn may_place(facts: &[[u32; CAPACITY]; ROWS], placed: u32, e: u8) -> bool
     requires { e < capacity }
     ensures { Tells facts.now e (λ t. may_place t (bit placed) e) result }
 {
-    if may_read(facts, placed, e) {
-        may_write(facts, placed, e)
-    } else {
-        false
-    }
+    may_read(facts, placed, e) && may_write(facts, placed, e)
 }
 
 // The clean order at the front of the array is lawful.
@@ -88,14 +82,11 @@ pub fn is_lawful(facts: &[[u32; CAPACITY]; ROWS], order: &[u8; CAPACITY], len: u
     ensures { Judges facts.now (take len order.now) lawful result }
 {
     let mut placed: u32 = 0;
-    let mut i: usize = 0;
-    while i < len {
-        let e = order[i];
+    for &e in &order[..len] {
         if !may_place(facts, placed, e) {
             return false;
         }
-        placed = placed | one(e as u32);
-        i += 1;
+        placed |= one(u32::from(e));
     }
     true
 }
@@ -106,11 +97,7 @@ fn may_stand(facts: &[[u32; CAPACITY]; ROWS], placed: u32, good: u32, e: u8) -> 
     ensures { TellsGood facts.now good e
         (λ t value. may_place t (bit placed) e && reads_stated t (bit placed) value e) result }
 {
-    if reads_stated(facts, placed, good, e) {
-        may_place(facts, placed, e)
-    } else {
-        false
-    }
+    reads_stated(facts, placed, good, e) && may_place(facts, placed, e)
 }
 
 // The mask of the good once `e` is placed.
@@ -132,11 +119,12 @@ fn ends_well(facts: &[[u32; CAPACITY]; ROWS], order: &[u8; CAPACITY], len: usize
         return false;
     }
     let mut left = facts[SETS][WRONG];
-    let mut i = len;
-    while (left != 0) & (0 < i) {
-        i -= 1;
+    for i in (0..len).rev() {
+        if left == 0 {
+            break;
+        }
         let e = order[i];
-        if has(left, e as u32) {
+        if has(left, u32::from(e)) {
             return false;
         }
         left = less(left, facts[PEERS][e as usize]);
@@ -154,15 +142,12 @@ pub fn is_witness(facts: &[[u32; CAPACITY]; ROWS], order: &[u8; CAPACITY], len: 
     }
     let mut placed: u32 = 0;
     let mut good = facts[SETS][GOOD];
-    let mut i: usize = 0;
-    while i < len {
-        let e = order[i];
+    for &e in &order[..len] {
         if !may_stand(facts, placed, good, e) {
             return false;
         }
-        placed = placed | one(e as u32);
+        placed |= one(u32::from(e));
         good = good_after(facts, good, e);
-        i += 1;
     }
     true
 }

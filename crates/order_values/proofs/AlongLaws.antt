@@ -3,11 +3,11 @@ use Prim.Native.Nat.{ℕ, ◌+◌, ◌*◌, ◌/◌, ◌%◌, ◌^◌, ◌≤◌
 use native.Mathlib.Omega.{arith}
 use native.Mathlib.Nat.{mod-eq_of_lt}
 use native.Mathlib.Numerals.{add-one}
-use mathlib.Core.Path.{◌≡◌, refl, sym, ap, ap₂, subst, ◌∙◌}
+use mathlib.Core.Path.{◌≡◌, refl, sym, ap, subst, ◌∙◌}
 use mathlib.Core.Bool.{Bool, true, false, cond, not, ◌||◌, or-true, or-false}
-use mathlib.Core.List.{List, [], ◌∷◌, ◌++◌}
+use mathlib.Core.List.{List, [], ◌∷◌}
 use lib.ListN.{length, get_or, take, set, length-take, length-set}
-use lib.Seq.{take-suc, take_all, take-take, get_or-set_same, get_or-set_other, length-take-le}
+use lib.Seq.{take-suc, take_all, take-take, get_or-set_same, get_or-set_other}
 use lib.Dec.{eqb, ltb}
 use borrow.Author.Tests.{eq-eqb, ne_eqb, eqb-true, eqb-false, not-false}
 use Rattle.lists.specs.Lists.{all, has}
@@ -29,7 +29,7 @@ use Rattle.fact_rows.specs.FactRows.{row, mask, Facts, set_row}
 use Rattle.fact_rows.specs.ValueRows.{Values, written_row, action_row, operated_word}
 use Rattle.order_test.specs.Testing.{Fitting}
 use Rattle.order_test.proofs.TellLaws.{mask-bit}
-use Rattle.order_test.proofs.PassLaws.{entry-is, entry-event}
+use Rattle.order_test.proofs.PassLaws.{item-event}
 use Rattle.order_values.specs.Following.{Leaves}
 use Rattle.order_values.specs.ByFacts.{last_left, place_of, written_by, left_by}
 use Rattle.order_values.proofs.WordLaws.{all_first, order-events, place_is, written_is, action-is, last-told, last-narrow}
@@ -93,18 +93,12 @@ module _ (facts : List (List ℕ)) (order : List ℕ) (len : ℕ) where
       ∙ or-true (eqb (event t w).operation no_operation))
 
   -- Entry i.
-  module _ (fit : Fitting order len) (i : ℕ) (l : i < len) (left : List ℕ) where
+  module _ (fit : Fitting order len) (i : ℕ) (few : i < length gmo) (left : List ℕ) where
     abbrev e : ℕ
-    e = get_or order i 0
-
-    here : get_or gmo i 0 ≡ e
-    here = entry-is facts order len fit i l
-
-    few : i < length gmo
-    few = omega (arith, length-take-le len order (omega (arith, fit.long, fit.within)))
+    e = get_or gmo i 0
 
     first : take i gmo ≡ take i order
-    first = take-take i len order (omega arith)
+    first = take-take i len order (omega (arith, length-take len order))
 
     module _ (t : Table) (f : Facts t facts) (v : Values t facts) (o : is_order t gmo ≡ true) (c : clean t gmo ≡ true)
         (told : Told t i left) where
@@ -112,7 +106,7 @@ module _ (facts : List (List ℕ)) (order : List ℕ) (len : ℕ) where
       k = clean-kept f.table o c
 
       counted : e < t.count
-      counted = entry-event facts order len fit i l t o
+      counted = item-event facts order len fit i few t o
 
       -- the value at its location, by the entries before it
       abbrev value : ℕ
@@ -163,8 +157,7 @@ module _ (facts : List (List ℕ)) (order : List ℕ) (len : ℕ) where
         where
           returns : return_of t gmo e ≡ last_write t (take i order) (location t e)
           returns =
-              ap (return_of t gmo) (sym here) ∙ writer-returns k i few (ap (writes t) here ∙ u)
-              ∙ ap₂ (λ (p : List ℕ) (a : ℕ). last_write t p (location t a)) first here
+              writer-returns k i few u ∙ ap (λ (p : List ℕ). last_write t p (location t e)) first
 
           before-told : (w : ℕ) → has w (take i order) ≡ true → w < t.count → writes t w ≡ true → location t w ≡ location t e →
               get_or left w 0 ≡ leaves t gmo (location t e) w
@@ -188,7 +181,7 @@ module _ (facts : List (List ℕ)) (order : List ℕ) (len : ℕ) where
         as_before : (w : ℕ) → eqb w e ≡ false → is_told t i w ≡ is_told t (i + 1) w
         as_before w z =
             ap (λ (b : Bool). eqb (event t w).operation no_operation || b) (sym (ap (has w)
-            (ap (λ (n : ℕ). take n gmo) (add-one i) ∙ take-suc gmo i 0 few ∙ ap (λ (a : ℕ). take i gmo ++ (a ∷ [])) here)
+            (ap (λ (n : ℕ). take n gmo) (add-one i) ∙ take-suc gmo i 0 few)
             ∙ has-append w (take i gmo) (e ∷ []) ∙ ap (λ (b : Bool). has w (take i gmo) || (b || false)) z
             ∙ or-false (has w (take i gmo))))
 

@@ -27,7 +27,7 @@ fn written(action: u32, value: u32) -> u32
 {
     let operation = (action % OPERAND) as u8;
     let operand = (action / OPERAND % OPERAND) as u8;
-    apply(operation, (value % VALUES) as u16, operand) as u32
+    u32::from(apply(operation, (value % VALUES) as u16, operand))
 }
 
 // A word of the row `PLACES` as a number with room in a row.
@@ -58,11 +58,9 @@ fn last_left(
     ensures behind { Behind (bit (mask facts.now writer_row x)) initially order.now len result.depth }
 {
     let writers = facts[WRITERS][x];
-    let mut i = len;
-    while 0 < i {
-        i -= 1;
+    for i in (0..len).rev() {
         let w = order[i];
-        if has(writers, w as u32) {
+        if has(writers, u32::from(w)) {
             return Told {
                 value: left[w as usize],
                 depth: i + 1,
@@ -87,7 +85,7 @@ fn left_by(
     ensures { result ≡ left_by facts.now left.now (take len order.now) e }
 {
     let action = facts[ACTIONS][e as usize];
-    if action % OPERAND == Operation::NONE as u32 {
+    if action % OPERAND == u32::from(Operation::NONE) {
         return facts[WRITTEN][e as usize];
     }
     let x = place(facts[PLACES][e as usize]);
@@ -109,11 +107,8 @@ pub fn left_values(
     if facts[SETS][OPERATED] == 0 {
         return left;
     }
-    let mut i: usize = 0;
-    while i < len {
-        let e = order[i];
+    for (i, &e) in order[..len].iter().enumerate() {
         left[e as usize] = left_by(facts, &left, order, i, e);
-        i += 1;
     }
     left
 }
@@ -139,9 +134,7 @@ pub fn value_read(
         };
     }
     let own = facts[OWN][e as usize];
-    let mut i = len;
-    while 0 < i {
-        i -= 1;
+    for i in (0..len).rev() {
         let w = order[i];
         if w == e {
             let told = last_left(facts, left, order, i, x);
@@ -150,7 +143,7 @@ pub fn value_read(
                 depth: i + 1,
             };
         }
-        if has(own, w as u32) {
+        if has(own, u32::from(w)) {
             return Told {
                 value: left[w as usize],
                 depth: len,
@@ -175,5 +168,5 @@ pub fn value_at_end(
     ensures ends_by { EndsBy facts.now left.now (take len order.now) x result.depth result.value }
     ensures depth_le_capacity { result.depth ≤ capacity }
 {
-    last_left(facts, left, order, len, x as usize)
+    last_left(facts, left, order, len, usize::from(x))
 }

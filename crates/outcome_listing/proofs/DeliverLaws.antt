@@ -4,11 +4,11 @@ use native.Mathlib.Omega.{arith}
 use native.Mathlib.Nat.{mul-le-mul, mul-le-mul_left, mul-div-le}
 use mathlib.Core.Path.{◌≡◌, refl, sym, ap, ◌∙◌, subst}
 use mathlib.Core.Bool.{Bool, true, false, cond, not, ◌&&◌}
-use mathlib.Core.List.{List, [], ◌∷◌, ◌++◌}
+use mathlib.Core.List.{List, ◌++◌}
 use lib.ListN.{length, take, drop}
 use lib.Seq.{length-take-le}
 use lib.Count.{ones}
-use lib.Dec.{eqb, ltb}
+use lib.Dec.{eqb}
 use borrow.Author.Tests.{lt-ltb, le-ltb}
 use Rattle.lists.specs.Reply.{Reply, refused, answered}
 use Rattle.sorted_rows.specs.Sorted.{rows, flat}
@@ -22,14 +22,12 @@ use Rattle.table.specs.Counts.{Small}
 use Rattle.event_sets.specs.Sets.{sets_of}
 use Rattle.prefixes.specs.Listed.{after}
 use Rattle.model.specs.Prefixes.{clean_prefixes}
-use Rattle.refusals.specs.Lines.{Refused, accepted, by_line, Line, first_line, reply_unless}
+use Rattle.refusals.specs.Lines.{Refused, accepted, by_line, first_line, reply_unless}
 use Rattle.refusals.proofs.LineLaws.{none_here, whole_here, whole-next}
-use Rattle.candidate.specs.Buffers.{written}
 use Rattle.search.specs.Replies.{max_allowance}
 use Rattle.outcome_listing.proofs.StandLaws.{readers-mask}
-use Rattle.outcomes.specs.Outcomes.{readers, outcome_length, outcomes, Listing, given, none_left, spent, offered, listing}
-use Rattle.outcome_listing.specs.declared.Gathered.{Gathered}
-use Rattle.outcome_listing.specs.declared.Gathered.TheVariants.{All, Over}
+use Rattle.outcomes.specs.Outcomes.{readers, outcome_length, outcomes, Listing, given, spent, offered, listing}
+use Rattle.std.specs.Prelude.{Option, Some, None}
 use Rattle.outcome_listing.specs.declared.OutcomeReply.{OutcomeReply}
 use Rattle.outcome_listing.specs.declared.OutcomeReply.TheVariants.{Listed, NoneLeft, Spent}
 use Rattle.outcome_listing.specs.Gathering.{Gathers, Within, Fits, gathered_as}
@@ -84,22 +82,22 @@ unfolding outcome_length readers
 width_small t h = omega (arith, below-few (reads t) t.count, h.events, h.locations)
 
 -- what was gathered is handed out by the reply, with the buffer then
-abbrev pub Delivers : ℕ → (kept out : List ℕ) → OutcomeReply → List ℕ → Gathered → Type 0
+abbrev pub Delivers : ℕ → (kept out : List ℕ) → OutcomeReply → List ℕ → Option ℕ → Type 0
 Delivers w kept out r after· g =
     (listing_of r after· ≡ answered (gathered_as g w kept))
     × ((after· ≡ places_after (answered (gathered_as g w kept)) out) × (values_of r ≡ values_in (answered (gathered_as g w kept))))
 
-module _ (w : ℕ) (kept out : List ℕ) (g : Gathered) where
-  pub none-delivered : (n : ℕ) → g ≡ All n → n ≡ 0 → Delivers w kept out NoneLeft out g
+module _ (w : ℕ) (kept out : List ℕ) (g : Option ℕ) where
+  pub none-delivered : (n : ℕ) → g ≡ Some n → n ≡ 0 → Delivers w kept out NoneLeft out g
   unfolding rows
   none-delivered n e z =
       subst (Delivers w kept out NoneLeft out) (sym e)
-      (subst (λ (m : ℕ). Delivers w kept out NoneLeft out (All m)) (sym z) (refl, (refl, refl)))
+      (subst (λ (m : ℕ). Delivers w kept out NoneLeft out (Some m)) (sym z) (refl, (refl, refl)))
 
-  pub over-delivered : g ≡ Over → Delivers w kept out Spent out g
+  pub over-delivered : g ≡ None → Delivers w kept out Spent out g
   over-delivered e = subst (Delivers w kept out Spent out) (sym e) (refl, (refl, refl))
 
-  pub rows-delivered : (n : ℕ) (after· : List ℕ) → g ≡ All n → (n ≡ 0 → ⊥) → Fits w (length kept) g →
+  pub rows-delivered : (n : ℕ) (after· : List ℕ) → g ≡ Some n → (n ≡ 0 → ⊥) → Fits w (length kept) g →
       after· ≡ take (w * n) kept ++ drop (w * n) out → Delivers w kept out (Listed n w) after· g
   rows-delivered n after· e some f copied =
       let room = subst (Fits w (length kept)) e f in
@@ -109,27 +107,27 @@ module _ (w : ℕ) (kept out : List ℕ) (g : Gathered) where
       )
 
 -- what was gathered is the answer
-pub gathered-listing : (t : Table) (room : ℕ) (previous : List ℕ) (b : ℕ) (g : Gathered) (kept : List ℕ) → Gathers t room previous b g kept →
+pub gathered-listing : (t : Table) (room : ℕ) (previous : List ℕ) (b : ℕ) (g : Option ℕ) (kept : List ℕ) → Gathers t room previous b g kept →
     gathered_as g (outcome_length t) kept ≡ listing t previous room b
 unfolding listing
-gathered-listing t room previous b (All n) kept h =
+gathered-listing t room previous b (Some n) kept h =
     ap offered h.1
     ∙ ap (λ (x : Bool). cond x spent (offered (take room (after previous (outcomes t))))) (sym (le-ltb b (length (clean_prefixes t)) h.0))
-gathered-listing t room previous b Over kept h =
+gathered-listing t room previous b None kept h =
     ap (λ (x : Bool). cond x spent (offered (take room (after previous (outcomes t))))) (sym (lt-ltb b (length (clean_prefixes t)) h))
 
 -- the rows gathered have room among the rows kept, and in the buffer
-pub room_fits : (w most top room k n : ℕ) (g : Gathered) → room ≡ min most (n / w) → w ≤ 40 → most ≤ top → 40 * top ≤ k → Within room g →
+pub room_fits : (w most top room k n : ℕ) (g : Option ℕ) → room ≡ min most (n / w) → w ≤ 40 → most ≤ top → 40 * top ≤ k → Within room g →
     Within top g × Fits w k g × Fits w n g
-room_fits w most top room k n (All m) e h l j i = (
+room_fits w most top room k n (Some m) e h l j i = (
   omega (arith, e, i),
   omega (arith, mul-le-mul {n₁ = w} {m₁ = m} {n₂ = 40} {m₂ = top} h (omega (arith, e, i))),
   omega (arith, mul-div-le n w, mul-le-mul_left {m = m} {n = n / w} w (omega (arith, e, i))),
 )
-room_fits w most top room k n Over e h l j i = (tt, tt, tt)
+room_fits w most top room k n None e h l j i = (tt, tt, tt)
 
 -- what was gathered for so many is the listing
-pub listing-is : (t : Table) (w most room : ℕ) (previous out : List ℕ) (b : ℕ) (g : Gathered) (kept : List ℕ) → w ≡ outcome_length t →
+pub listing-is : (t : Table) (w most room : ℕ) (previous out : List ℕ) (b : ℕ) (g : Option ℕ) (kept : List ℕ) → w ≡ outcome_length t →
     room ≡ min most (length out / w) → Gathers t room previous b g kept → gathered_as g w kept ≡ listing t previous (room_for t most out) b
 unfolding room_for
 listing-is t w most room previous out b g kept e r h =

@@ -11,7 +11,7 @@ use Rattle.lists.specs.Lists.{◌∈◌, keep}
 use Rattle.lists.proofs.MemberLaws.{keep-only}
 use Rattle.lists.specs.Ascending.{less, Ascending}
 use Rattle.lists.proofs.AscendingLaws.{ascending-keep, after-above}
-use Rattle.sorted_rows.specs.Sorted.{insert, sorted, rows}
+use Rattle.sorted_rows.specs.Sorted.{insert, sorted}
 use Rattle.sorted_rows.proofs.SortedLaws.{sorted-ascending, ascending-take, sorted_more, kept_same, kept_more}
 use Rattle.table.specs.declared.Table.{Table}
 use Rattle.prefixes.specs.Listed.{after}

@@ -1,10 +1,9 @@
 -- The walk for any order ends at the next lawful one.
 use Prim.Native.Nat.{ℕ}
 use mathlib.Core.Path.{◌≡◌, refl, ap, ◌∙◌}
-use mathlib.Core.Bool.{Bool, true}
+use mathlib.Core.Bool.{Bool}
 use mathlib.Core.List.{List}
 use lib.ListN.{take}
-use Rattle.table.specs.declared.Table.{Table}
 use Rattle.prefixes.specs.Listed.{after}
 use Rattle.prefixes.specs.Statements.{seek}
 use Rattle.model.specs.Witness.{witness_for}
@@ -17,7 +16,7 @@ use Rattle.witness_walk.specs.declared.Ending.{Ending}
 use Rattle.witness_walk.specs.declared.Path.{Path}
 use Rattle.witness_walk.specs.Running.{Runs}
 use Rattle.witness_walk.proofs.EntersLaws.{enters-always}
-use Rattle.outcome_listing.specs.Gathering.{Walks, NextLawful}
+use Rattle.outcome_listing.specs.Gathering.{NextLawful}
 
 pub next-lawful : (facts : List (List ℕ)) (preds : List ℕ) (mem : ℕ) (order goods : List ℕ) (from : Path) (b : ℕ) (o : Ending)
     (after· : List ℕ) → Runs facts any_words preds mem 0 order goods from b o after· → from.later ≡ from.masks.can →

@@ -2,14 +2,13 @@
 use Prim.Native.Nat.{ℕ, ◌*◌, ◌≤◌}
 use native.Mathlib.Omega.{arith}
 use native.Mathlib.Nat.{mul-le-mul_right}
-use mathlib.Core.Path.{◌≡◌, refl, sym, ap, ap₂, subst, ◌∙◌}
+use mathlib.Core.Path.{◌≡◌, sym, ap, ap₂, subst, ◌∙◌}
 use mathlib.Core.Bool.{Bool, true, false, cond}
 use mathlib.Core.List.{List}
 use lib.ListN.{take}
 use Rattle.lists.specs.Ascending.{less, Ascending}
 use Rattle.sorted_rows.specs.Sorted.{insert, rows}
 use Rattle.sorted_rows.specs.Places.{Puts}
-use Rattle.table.specs.declared.Table.{Table}
 use Rattle.outcomes.specs.Outcomes.{outcome_of, outcome_length}
 use Rattle.outcome_values.specs.Giving.{Gives}
 use Rattle.outcome_listing.specs.declared.Asked.{Asked}

@@ -1,5 +1,5 @@
 -- Where a walk from one lawful order to the next stands: what holds of its masks, its order and its rows.
-use Prim.Native.Nat.{ℕ, ◌+◌, ◌-◌, ◌≤◌, ◌<◌}
+use Prim.Native.Nat.{ℕ, ◌-◌, ◌≤◌, ◌<◌}
 use native.Mathlib.Omega.{arith}
 use mathlib.Core.Path.{◌≡◌, refl, sym, ap, ap₂, ◌∙◌, subst}
 use mathlib.Core.Bool.{Bool, true, false, cond, not, ◌&&◌, and-true}
@@ -22,10 +22,9 @@ use Rattle.prefixes.specs.Statements.{seek}
 use Rattle.model.specs.Witness.{is_order, lawful, witness_for}
 use Rattle.model.specs.Prefixes.{clean, clean_prefixes}
 use Rattle.model.proofs.PrefixLaws.{witness-clean}
-use Rattle.successors.specs.CleanMasks.{slots, ready, may_follow, clean_from, clean_by}
+use Rattle.successors.specs.CleanMasks.{slots, ready, clean_from, clean_by}
 use Rattle.ready_events.specs.Current.{Current}
 use Rattle.engine.specs.State.{Holds}
-use Rattle.precedence.specs.Precedence.{predecessor_masks}
 use Rattle.precedence.proofs.PrecedenceLaws.{clean-same, whole-mask, order-length}
 use Rattle.event_sets.specs.Sets.{sets_of}
 use Rattle.condition_test.specs.Wanted.{any_order}
@@ -33,7 +32,6 @@ use Rattle.witness_walk.specs.declared.Path.{Path}
 use Rattle.witness_walk.specs.declared.Ending.{Ending}
 use Rattle.witness_walk.specs.declared.Ending.TheVariants.{Found, NoneLeft, Spent}
 use Rattle.witness_walk.specs.Ending.{answer_of}
-use Rattle.witness_walk.specs.Running.{AtMost}
 use Rattle.outcomes.specs.Outcomes.{readers, outcome_of, outcome_length, outcomes}
 use Rattle.outcome_listing.specs.declared.Asked.{Asked}
 use Rattle.outcome_listing.specs.Gathering.{Walks, NextLawful, Notes}

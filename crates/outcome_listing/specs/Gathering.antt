@@ -1,5 +1,5 @@
 -- What the walk over a table's lawful orders is handed, and what it has gathered.
-use Rattle.std.specs.Prelude.{ℕ, ◌*◌, ◌≤◌, ◌<◌, ◌≡◌, Bool, true, cond, List, length, take}
+use Rattle.std.specs.Prelude.{ℕ, ◌*◌, ◌≤◌, ◌<◌, ◌≡◌, true, cond, List, Option, Some, None, length, take}
 use Rattle.lists.specs.Ascending.{less, Ascending}
 use Rattle.masks.specs.MaskOf.{mask_of}
 use Rattle.sorted_rows.specs.Sorted.{insert, rows}
@@ -17,8 +17,6 @@ use Rattle.witness_walk.specs.declared.Ending.{Ending}
 use Rattle.witness_walk.specs.Ending.{answer_of}
 use Rattle.outcomes.specs.Outcomes.{readers, outcome_of, outcome_length, outcomes, Listing, spent, offered}
 use Rattle.outcome_listing.specs.declared.Asked.{Asked}
-use Rattle.outcome_listing.specs.declared.Gathered.{Gathered}
-use Rattle.outcome_listing.specs.declared.Gathered.TheVariants.{All, Over}
 
 -- the masks and facts are those of the table
 pub record Walks (t : Table) (facts : List (List ℕ)) (preds : List ℕ) : Type 0 where
@@ -42,22 +40,22 @@ Notes facts gmo locations asked previous n kept r after· =
     (rows (outcome_length t) n kept)
 
 -- all clean prefixes were visited, and kept are the least outcomes above the previous one; or there are more than the allowance
-abbrev pub Gathers : Table → ℕ → List ℕ → ℕ → Gathered → List ℕ → Type 0
-Gathers t room previous b (All n) kept =
+abbrev pub Gathers : Table → ℕ → List ℕ → ℕ → Option ℕ → List ℕ → Type 0
+Gathers t room previous b (Some n) kept =
     (length (clean_prefixes t) ≤ b) × (rows (outcome_length t) n kept ≡ take room (after previous (outcomes t)))
-Gathers t room previous b Over kept = b < length (clean_prefixes t)
+Gathers t room previous b None kept = b < length (clean_prefixes t)
 
 -- no more rows than there is room for
-abbrev pub Within : ℕ → Gathered → Type 0
-Within room (All n) = n ≤ room
-Within room Over = Unit {0}
+abbrev pub Within : ℕ → Option ℕ → Type 0
+Within room (Some n) = n ≤ room
+Within room None = Unit {0}
 
 -- the rows have room among k places
-abbrev pub Fits : ℕ → ℕ → Gathered → Type 0
-Fits w k (All n) = w * n ≤ k
-Fits w k Over = Unit {0}
+abbrev pub Fits : ℕ → ℕ → Option ℕ → Type 0
+Fits w k (Some n) = w * n ≤ k
+Fits w k None = Unit {0}
 
 -- what was gathered, as an answer
-abbrev pub gathered_as : Gathered → ℕ → List ℕ → Listing
-gathered_as (All n) w kept = offered (rows w n kept)
-gathered_as Over w kept = spent
+abbrev pub gathered_as : Option ℕ → ℕ → List ℕ → Listing
+gathered_as (Some n) w kept = offered (rows w n kept)
+gathered_as None w kept = spent

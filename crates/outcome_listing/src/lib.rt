@@ -2,7 +2,7 @@
 // above the previous one, handed out.
 #![tactic(auto)]
 
-ghost use Rattle.std.specs.Prelude.{◌+◌, ◌*◌, ◌≤◌, ◌<◌, min, ◌≡◌, not, ◌&&◌, eqb, length, take};
+ghost use Rattle.std.specs.Prelude.{◌+◌, ◌*◌, ◌≤◌, ◌<◌, ◌≡◌, not, ◌&&◌, eqb, length, take};
 ghost use Rattle.std.specs.Int.Count.{ones};
 ghost use Rattle.lists.specs.Reply.{answered};
 ghost use Rattle.edition.specs.Limits.{max_locations};
@@ -121,14 +121,8 @@ fn behind(len: usize, mem: u32) -> Path
     }
 }
 
-// What a walk over all lawful orders has gathered: so many rows; or there are more prefixes than it may visit.
-#[derive(Clone, Copy)]
-pub enum Gathered {
-    All(usize),
-    Over,
-}
-
-// Gathers the least outcomes above the previous one.
+// Gathers the least outcomes above the previous one, by a walk over all lawful orders: how many rows these are, or none where
+// there are more prefixes than it may visit.
 fn gather(
     t: Table,
     facts: &[[u32; CAPACITY]; ROWS],
@@ -138,7 +132,7 @@ fn gather(
     previous: &[u16],
     kept: &mut [u16],
     budget: u64,
-) -> Gathered
+) -> Option<usize>
     requires walks { Walks t facts.now pred.now × Prepared pred.now succ.now (memory_mask t) }
     requires readers_value { (asked.readers ≡ mask_of (readers t)) × (row_length * asked.room ≤ length kept.old) }
     ensures gathers { Gathers t asked.room previous.now budget result kept.new }
@@ -153,10 +147,10 @@ fn gather(
         let ending = next_lawful(facts, pred, succ, mem, &mut order, from, left);
         match ending {
             Ending::NoneLeft { visited } => {
-                return Gathered::All(n);
+                return Some(n);
             }
             Ending::Spent { len, visited } => {
-                return Gathered::Over;
+                return None;
             }
             Ending::Found { len, visited } => {
                 left -= visited;
@@ -175,7 +169,7 @@ fn gather_of(
     previous: &[u16],
     kept: &mut [u16],
     budget: u64,
-) -> Gathered
+) -> Option<usize>
     requires good_table { GoodTable t × (s ≡ sets_of t) × (asked.readers ≡ s.readers) }
     requires room_in_bounds { row_length * asked.room ≤ length kept.old }
     ensures gathers { Gathers t asked.room previous.now budget result kept.new }
@@ -189,32 +183,25 @@ fn gather_of(
 }
 
 // Hands out what was gathered.
-fn deliver(gathered: Gathered, width: u8, kept: &[u16], out: &mut [u16]) -> OutcomeReply
+fn deliver(gathered: Option<usize>, width: u8, kept: &[u16], out: &mut [u16]) -> OutcomeReply
     requires { Within most_outcomes gathered × Fits width (length kept.now) gathered × Fits width (length out.old) gathered }
     ensures out_after { listing_of result out.new ≡ answered (gathered_as gathered width kept.now) }
     ensures out_after_2 { out.new ≡ places_after (answered (gathered_as gathered width kept.now)) out.old }
     ensures result_value { values_of result ≡ values_in (answered (gathered_as gathered width kept.now)) }
 {
     match gathered {
-        Gathered::Over => OutcomeReply::Spent,
-        Gathered::All(n) => {
+        None => OutcomeReply::Spent,
+        Some(n) => {
             if n == 0 {
                 return OutcomeReply::NoneLeft;
             }
-            sorted_rows::copy_rows(kept, width as usize * n, out);
+            sorted_rows::copy_rows(kept, usize::from(width) * n, out);
             OutcomeReply::Listed {
                 outcomes: n as u8,
                 values: width,
             }
         }
     }
-}
-
-// The smaller of two numbers.
-fn fewer(a: usize, b: usize) -> usize
-    ensures { result ≡ min a b }
-{
-    if a < b { a } else { b }
 }
 
 // How many values an outcome has.
@@ -248,7 +235,7 @@ pub fn list(
     let s = event_sets::of_table(t);
     let readers = s.readers;
     let values = values_of(readers, t.locations);
-    let width = values as usize;
+    let width = usize::from(values);
     if is_no_outcome(previous.len(), width) {
         return OutcomeReply::Refused(Refusal::Line(12));
     }
@@ -260,7 +247,7 @@ pub fn list(
     }
     let asked = Asked {
         readers,
-        room: fewer(most, out.len() / width),
+        room: most.min(out.len() / width),
     };
     let mut kept = [0u16; PLACES];
     let gathered = gather_of(t, s, asked, previous, &mut kept, allowance);

@@ -2,12 +2,12 @@
 use Prim.Native.Nat.{ℕ, ◌+◌, ◌^◌, ◌≤◌, ◌<◌}
 use native.Mathlib.Omega.{arith}
 use native.Mathlib.Numerals.{add-one}
-use mathlib.Core.Path.{◌≡◌, refl, sym, ap, ap₂, ◌∙◌}
+use mathlib.Core.Path.{◌≡◌, refl, sym, ap, ◌∙◌}
 use mathlib.Core.Bool.{Bool, true, false, cond, ◌&&◌, false≢true, true≢false}
 use mathlib.Core.List.{List, [], ◌∷◌, ◌++◌}
 use mathlib.Core.Logic.{⊎_elim}
 use lib.ListN.{length, get_or, take, set, length-take, length-set}
-use lib.Seq.{take-suc, take_all, get_or-set_same, get_or-set_other, length-take-le}
+use lib.Seq.{take-suc, take_all, get_or-set_same, get_or-set_other}
 use lib.Bits.{bit_and, bit_or, bit_xor}
 use lib.Dec.{eqb, ltb}
 use borrow.Author.Tests.{eqb-true, eqb-false, eq-eqb, lt-ltb, ltb-true}
@@ -35,7 +35,7 @@ use Rattle.fact_rows.specs.FactRows.{row, mask, Facts, own_row}
 use Rattle.fact_rows.specs.ValueRows.{Values, writer_row, initial_row}
 use Rattle.order_test.specs.Testing.{Fitting}
 use Rattle.order_test.proofs.TellLaws.{tell-forwards-none, tell-forwards}
-use Rattle.order_test.proofs.PassLaws.{Placed, placed-start, placed-more, entry-is, entry-event, among-mask}
+use Rattle.order_test.proofs.PassLaws.{Placed, placed-start, item-placed, item-event, among-mask}
 use Rattle.order_values.specs.Following.{LeftOf}
 use Rattle.order_values.specs.ByFacts.{place_of}
 use Rattle.order_values.proofs.WordLaws.{place_is, writer-bit, initial-is}
@@ -96,18 +96,16 @@ module _ (facts : List (List ℕ)) (left order : List ℕ) (len : ℕ) where
       ∙ ap (λ (p : List ℕ). leaves t gmo x (last_write t p x)) (take_all i gmo (omega (arith, length-take len order)))
 
   -- Entry i is told.
-  module _ (fit : Fitting order len) (i : ℕ) (l : i < len) (placed : ℕ) (returned at : List ℕ) (s : Told i placed returned at)
-      (x : ℕ) (place : x ≡ place_of facts (get_or order i 0)) where
+  module _ (fit : Fitting order len) (i : ℕ) (few : i < length gmo) (placed : ℕ) (returned at : List ℕ) (s : Told i placed returned at)
+      (x : ℕ) (place : x ≡ place_of facts (get_or gmo i 0)) where
     abbrev e : ℕ
-    e = get_or order i 0
+    e = get_or gmo i 0
 
-    few : i < length gmo
-    few = omega (arith, length-take-le len order (omega (arith, fit.long, fit.within)))
+    inside : i < len
+    inside = omega (arith, length-take len order)
 
     one_more : take (i + 1) gmo ≡ take i gmo ++ (e ∷ [])
-    one_more =
-        ap (λ (n : ℕ). take n gmo) (add-one i) ∙ take-suc gmo i 0 few
-        ∙ ap (λ (a : ℕ). take i gmo ++ (a ∷ [])) (entry-is facts order len fit i l)
+    one_more = ap (λ (n : ℕ). take n gmo) (add-one i) ∙ take-suc gmo i 0 few
 
     module _ (t : Table) (f : Facts t facts) (v : Values t facts) (o : is_order t gmo ≡ true) (c : clean t gmo ≡ true)
         (given : LeftOf t gmo left) where
@@ -115,7 +113,7 @@ module _ (facts : List (List ℕ)) (left order : List ℕ) (len : ℕ) where
       k = clean-kept f.table o c
 
       counted : e < t.count
-      counted = entry-event facts order len fit i l t o
+      counted = item-event facts order len fit i few t o
 
       here : x ≡ location t e
       here = place ∙ place_is f v e counted
@@ -132,10 +130,10 @@ module _ (facts : List (List ℕ)) (left order : List ℕ) (len : ℕ) where
       -- what it returns from: its forwarder, else the last write before it
       source : return_of t gmo e ≡ cond (ltb from t.count) from (last_write t (take i gmo) (location t e))
       source =
-          ap (return_of t gmo) (sym (entry-is facts order len fit i l)) ∙ entry-returns k i few
-          ∙ ap₂ (λ (g : ℕ → Bool) (a : ℕ).
-          cond (ltb (forwarder t g a) t.count) (forwarder t g a) (last_write t (take i gmo) (location t a)))
-          (among-mask facts order len fit i l placed s.before) (entry-is facts order len fit i l)
+          entry-returns k i few
+          ∙ ap (λ (g : ℕ → Bool).
+          cond (ltb (forwarder t g e) t.count) (forwarder t g e) (last_write t (take i gmo) (location t e)))
+          (among-mask facts order len fit i inside placed s.before)
 
       value-right : (value : ℕ) → NowBy facts left placed e (get_or at x 0) value → reads t e ≡ true →
           value ≡ returned_value t gmo e
@@ -199,7 +197,7 @@ module _ (facts : List (List ℕ)) (left order : List ℕ) (len : ℕ) where
         next ≡ cond (bit (mask facts writer_row x) e) (set at x (get_or left e 0)) at → b ≡ 2 ^ e →
         Told (i + 1) (bit_or placed b) (set returned e value) next
     tell-more value b next by q p = record {
-      before = placed-more facts order len fit i l placed b s.before p;
+      before = item-placed facts order len fit i few placed b s.before p;
       long = length-set returned e value ∙ s.long;
       told = λ t f v o c given.
           let same : next ≡ after· t f v o c given =

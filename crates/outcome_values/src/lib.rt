@@ -14,7 +14,7 @@ ghost use Rattle.order_test.specs.Testing.{Fitting};
 ghost use Rattle.outcome_values.specs.Giving.{row_length, value_in, NowBy, ReturnsIn, EndsIn, GivesBy, Gives};
 
 use fact_rows::{INITIAL, OPERATED, OWN, PLACES, ROWS, SETS, WRITERS, WRITTEN};
-use masks::{has, highest_set, less, lowest_set, one};
+use masks::{Ones, has, highest_set, less, one};
 use order_values::{left_values, place};
 use table::CAPACITY;
 
@@ -63,7 +63,7 @@ fn note_write(
     ensures { at.new ≡ cond (bit (mask facts.now writer_row x) e)
         (set at.old x (get_or left.now e 0)) at.old }
 {
-    if has(facts[WRITERS][x], e as u32) {
+    if has(facts[WRITERS][x], u32::from(e)) {
         at[x] = left[e as usize];
     }
 }
@@ -83,14 +83,11 @@ fn go_along(
     ensures ends_in { EndsIn facts.now left.now (take len order.now) at.new }
 {
     let mut placed: u32 = 0;
-    let mut i: usize = 0;
-    while i < len {
-        let e = order[i];
+    for &e in &order[..len] {
         let x = place(facts[PLACES][e as usize]);
         returned[e as usize] = value_now(facts, left, &*at, placed, e, x);
         note_write(facts, left, at, e, x);
-        placed = placed | one(e as u32);
-        i += 1;
+        placed |= one(u32::from(e));
     }
 }
 
@@ -100,13 +97,10 @@ fn returned_values(returned: &[u32; CAPACITY], readers: u32, values: &mut [u16; 
     ensures values_after { take result values.new ≡ map (value_in returned.now) (bits capacity readers) }
     ensures upper_bound { (result ≤ capacity) × (length values.new ≡ row_length) }
 {
-    let mut rest = readers;
     let mut n: usize = 0;
-    while rest != 0 {
-        let e = lowest_set(rest);
+    for e in Ones(readers) {
         values[n] = narrow(returned[e as usize]);
         n += 1;
-        rest = rest ^ one(e);
     }
     n
 }
@@ -118,10 +112,8 @@ fn final_values(at: &[u32; CAPACITY], locations: u8, n: usize, values: &mut [u16
         take n values.old ++ map (value_in at.now) (below locations) }
     ensures values_len { length values.new ≡ row_length }
 {
-    let mut x: u8 = 0;
-    while x < locations {
-        values[n + x as usize] = narrow(at[x as usize]);
-        x += 1;
+    for x in 0..usize::from(locations) {
+        values[n + x] = narrow(at[x]);
     }
 }
 
@@ -145,7 +137,7 @@ fn outcome_by(
     go_along(facts, left, order, len, &mut returned, &mut at);
     let n = returned_values(&returned, readers, values);
     final_values(&at, locations, n, values);
-    n + locations as usize
+    n + usize::from(locations)
 }
 
 // Writes what the clean order at the front of the array gives: how many values that are. `readers` is the mask of the test's

@@ -24,8 +24,7 @@ fn some_overwrites(t: Table, a: EventNo, b: EventNo) -> bool
 {
     let x = t.events[a.0 as usize];
     let y = t.events[b.0 as usize];
-    let mut m: u8 = 0;
-    while m < t.count {
+    for m in 0..t.count {
         let z = t.events[m as usize];
         if table::between(a, x, EventNo(m), z, b, y)
             & table::writes(z)
@@ -33,7 +32,6 @@ fn some_overwrites(t: Table, a: EventNo, b: EventNo) -> bool
         {
             return true;
         }
-        m += 1;
     }
     false
 }

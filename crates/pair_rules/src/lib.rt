@@ -22,7 +22,7 @@ fn held(t: Table, returned: &[u8], a: u64, b: u64) -> u16
     requires { Small t × (length returned.now ≡ t.count) }
     ensures { rules_in result ≡ rules_between t returned.now a b }
 {
-    if b >= t.count as u64 {
+    if b >= u64::from(t.count) {
         return 0;
     }
     if a >= b {
@@ -41,7 +41,7 @@ pub fn pair(t: Table, returned: &[u8], a: u64, b: u64) -> PairRules
     requires { Small t }
     ensures { ruled_of result ≡ reply_unless (first_line t.count (returned_lines t returned.now)) (rules_between t returned.now a b) }
 {
-    if returned.len() != t.count as usize {
+    if returned.len() != usize::from(t.count) {
         return PairRules::Refused(Refusal::Line(12));
     }
     if candidate::returned_wrong(t, returned) {

@@ -1,7 +1,7 @@
 // Reads a suite of up to eight blocks and prints what part is handed back as each block, and as some that it lacks.
 #![tactic(auto)]
 
-use console::{Filled, Line};
+use console::Line;
 use edition::EditionOne;
 
 const MOST_BLOCKS: usize = 8;
@@ -14,27 +14,24 @@ const LAST: usize = usize::MAX / EditionOne::BLOCK;
 fn part(rt: &HostRuntime, suite: &[u8], k: usize) {
     let bytes = suite_part::block(suite, k);
     let begun = Line::output(rt).number(k as u64);
-    if bytes.len() == 0 {
-        let _ = begun.text(b": not in the suite").end();
-        return;
-    }
-    let _ = begun
-        .text(b": ")
-        .number(bytes.len() as u64)
-        .text(b" bytes, from")
-        .spaced(console::wide(bytes[0]))
-        .text(b" to")
-        .spaced(console::wide(bytes[bytes.len() - 1]))
-        .end();
+    let said = match (bytes.first(), bytes.last()) {
+        (Some(first), Some(last)) => begun
+            .text(b": ")
+            .number(bytes.len() as u64)
+            .text(b" bytes, from")
+            .spaced(u64::from(*first))
+            .text(b" to")
+            .spaced(u64::from(*last)),
+        _ => begun.text(b": not in the suite"),
+    };
+    let _ = said.end();
 }
 
 fn parts(rt: &HostRuntime, suite: &[u8]) {
     let n = suite_part::blocks(suite);
     let _ = Line::output(rt).number(n as u64).text(b" blocks").end();
-    let mut k: usize = 0;
-    while k < MOST_BLOCKS {
+    for k in 0..MOST_BLOCKS {
         part(rt, suite, k);
-        k += 1;
     }
     part(rt, suite, LAST);
     part(rt, suite, LAST + 1);
@@ -44,7 +41,7 @@ fn parts(rt: &HostRuntime, suite: &[u8]) {
 fn main(rt: HostRuntime) {
     let mut buffer = [0u8; MOST_BYTES];
     match console::fill(&rt, &mut buffer) {
-        Filled::Failed(e) => console::input_failed(&rt, b"parts", e),
-        Filled::Bytes(n) => parts(&rt, console::front(&buffer, n)),
+        Ok(n) => parts(&rt, console::front(&buffer, n)),
+        Err(e) => console::input_failed(&rt, b"parts", e),
     }
 }

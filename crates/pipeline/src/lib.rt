@@ -18,8 +18,7 @@ fn some_forwards(t: Table, w: u8, a: EventNo, b: EventNo) -> bool
 {
     let x = t.events[a.0 as usize];
     let y = t.events[b.0 as usize];
-    let mut m: u8 = 0;
-    while m < t.count {
+    for m in 0..t.count {
         let z = t.events[m as usize];
         if table::between(a, x, EventNo(m), z, b, y)
             & table::writes(z)
@@ -28,7 +27,6 @@ fn some_forwards(t: Table, w: u8, a: EventNo, b: EventNo) -> bool
         {
             return true;
         }
-        m += 1;
     }
     false
 }
@@ -52,13 +50,11 @@ fn some_addresses(t: Table, a: EventNo, b: EventNo) -> bool
 {
     let x = t.events[a.0 as usize];
     let y = t.events[b.0 as usize];
-    let mut m: u8 = 0;
-    while m < t.count {
+    for m in 0..t.count {
         let z = t.events[m as usize];
         if table::between(a, x, EventNo(m), z, b, y) & table::memory(z) & rule9(a, z) {
             return true;
         }
-        m += 1;
     }
     false
 }

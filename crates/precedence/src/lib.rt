@@ -120,12 +120,10 @@ pub fn predecessors(t: Table, s: Sets) -> [u32; SLOTS]
         before_writes: 0,
         reserved: 0,
     };
-    let mut b: u8 = 0;
-    while b < t.count {
+    for b in 0..t.count {
         let y = t.events[b as usize];
         rows[b as usize] = row(s, p, EventNo(b), y);
         p = pass(s, p, EventNo(b), y);
-        b += 1;
     }
     rows
 }

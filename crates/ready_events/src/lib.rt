@@ -8,7 +8,7 @@ ghost use Rattle.successors.specs.CleanMasks.{slots, ready};
 ghost use Rattle.successors.specs.Waiting.{Prepared};
 ghost use Rattle.ready_events.specs.Current.{Current};
 
-use masks::{lowest_set, one, within};
+use masks::{Ones, one, within};
 use successors::SLOTS;
 
 // Of a prefix: its events, and those that may come next.
@@ -22,14 +22,10 @@ pub struct Masks {
 pub fn ready_of(pred: &[u32; SLOTS], rest: u32, placed: u32) -> u32
     ensures { (k : ℕ) → bit result k ≡ (bit rest k && ready pred.now placed k) }
 {
-    let mut left = rest;
     let mut found: u32 = 0;
-    while left != 0 {
-        let k = lowest_set(left);
-        let b = one(k);
-        left ^= b;
+    for k in Ones(rest) {
         if within(pred[k as usize], placed) {
-            found |= b;
+            found |= one(k);
         }
     }
     found

@@ -8,10 +8,6 @@ use native.Mathlib.Omega.{arith}
 use lib.ListN.{length, set}
 use lib.Seq.{sets}
 
--- two bytes
-pub set-two : (l : List ℕ) (at a b : ℕ) → set (set l at a) (at + 1) b ≡ sets l at (a ∷ b ∷ [])
-set-two l at a b = ap (λ (i : ℕ). set (set l at a) i b) (add-one at)
-
 -- four bytes
 pub set-four : (l : List ℕ) (at a b d e : ℕ) →
     set (set (set (set l (at + 0) a) (at + 1) b) (at + 2) d) (at + 3) e ≡ sets l at (a ∷ b ∷ d ∷ e ∷ [])

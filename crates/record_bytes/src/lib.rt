@@ -5,19 +5,15 @@ ghost use Rattle.std.specs.Prelude.{◌+◌, ◌≤◌, ◌<◌, ◌≡◌, leng
 ghost use Rattle.std.proofs.lemmas.List.Edits.{sets};
 ghost use Rattle.record_bytes.specs.RecordBytes.{two, code_bytes, mask_bytes, operation_bytes, record_bytes};
 
-use decode::{Field, RECORD};
+use decode::{Field, RECORD, WORD};
 use table::Event;
-
-// How many numbers there are of one byte.
-const BYTES: u32 = 256;
 
 // Sets a number of two bytes, the low one first.
 pub fn put_word(block: &mut [u8], at: usize, n: u32)
     requires { at + 1 < length block.old }
     ensures { block.new ≡ sets block.old at (two n) }
 {
-    block[at] = (n % BYTES) as u8;
-    block[at + 1] = (n / BYTES % BYTES) as u8;
+    block[at..at + WORD].copy_from_slice(&n.to_le_bytes()[..WORD]);
 }
 
 fn put_codes(block: &mut [u8], at: usize, e: Event)
@@ -54,7 +50,7 @@ pub fn put_record(block: &mut [u8], at: usize, e: Event)
 {
     put_codes(block, at, e);
     put_masks(block, at, e);
-    put_word(block, at + Field::READ, e.read as u32);
-    put_word(block, at + Field::WRITTEN, e.written as u32);
+    put_word(block, at + Field::READ, u32::from(e.read));
+    put_word(block, at + Field::WRITTEN, u32::from(e.written));
     put_operation(block, at, e);
 }

@@ -88,20 +88,20 @@ pub fn text_line7(harts: u8, locations: u8, e: Event) -> bool
 fn acquires(flags: u8) -> bool
     ensures { result ≡ (acquire_pc flags || acquire_sc flags) }
 {
-    masks::has(flags as u32, 0) | masks::has(flags as u32, 1)
+    masks::has(u32::from(flags), 0) | masks::has(u32::from(flags), 1)
 }
 
 fn releases(flags: u8) -> bool
     ensures { result ≡ (release_pc flags || release_sc flags) }
 {
-    masks::has(flags as u32, 2) | masks::has(flags as u32, 3)
+    masks::has(u32::from(flags), 2) | masks::has(u32::from(flags), 3)
 }
 
 fn both_at_once(flags: u8) -> bool
     ensures { result ≡ (acquire_pc flags && acquire_sc flags || release_pc flags && release_sc flags) }
 {
-    (masks::has(flags as u32, 0) & masks::has(flags as u32, 1))
-        | (masks::has(flags as u32, 2) & masks::has(flags as u32, 3))
+    (masks::has(u32::from(flags), 0) & masks::has(u32::from(flags), 1))
+        | (masks::has(u32::from(flags), 2) & masks::has(u32::from(flags), 3))
 }
 
 // Line 8 of a record.

@@ -16,10 +16,10 @@ use table::{Event, EventNo, LocationNo, Table};
 fn event_of(t: Table, k: EventNo) -> Event
     ensures { result ≡ event t k.0 }
 {
-    if (k.0 as usize) < table::CAPACITY {
-        return t.events[k.0 as usize];
-    }
-    table::no_event()
+    t.events
+        .get(k.0 as usize)
+        .copied()
+        .unwrap_or_else(table::no_event)
 }
 
 // w, which is x, is a writer to the location of reader r, which is y, that precedes r in the order or in program order, never r
@@ -44,17 +44,13 @@ pub fn return_of(t: Table, gmo: &[u8], r: EventNo) -> u8
 {
     let y = t.events[r.0 as usize];
     let mut latest = INITIALLY;
-    let mut i = 0;
-    while i < gmo.len() {
-        let w = gmo[i];
+    for &w in gmo {
         if table::CAPACITY <= w as usize {
-            i += 1;
             continue;
         }
         if visible(gmo, r, y, EventNo(w), t.events[w as usize]) {
             latest = w;
         }
-        i += 1;
     }
     latest
 }
@@ -76,21 +72,15 @@ pub fn determine(t: Table, gmo: &[u8], out: &mut [u8])
     requires { (t.count ≤ capacity) × (t.count ≤ length out.old) }
     ensures { out.new ≡ returns t gmo.now ++ drop t.count out.old }
 {
-    let mut e: u8 = 0;
-    while e < t.count {
+    for e in 0..t.count {
         out[e as usize] = return_entry(t, gmo, EventNo(e));
-        e += 1;
     }
 }
 
 fn initial_value(t: Table, x: LocationNo) -> u16
     ensures { result ≡ initial_value t x.0 }
 {
-    if (x.0 as usize) < table::LOCATIONS {
-        t.initial[x.0 as usize]
-    } else {
-        0
-    }
+    t.initial.get(x.0 as usize).copied().unwrap_or(0)
 }
 
 // The value that the write w, or the initial write, leaves at location x.
@@ -116,12 +106,10 @@ pub fn last_writer(t: Table, gmo: &[u8], x: LocationNo) -> u8
     ensures { result ≡ last_or (writes_to t x.0) initially gmo.now }
 {
     let mut latest = INITIALLY;
-    let mut i = 0;
-    while i < gmo.len() {
-        if writes_to(t, x, EventNo(gmo[i])) {
-            latest = gmo[i];
+    for &w in gmo {
+        if writes_to(t, x, EventNo(w)) {
+            latest = w;
         }
-        i += 1;
     }
     latest
 }

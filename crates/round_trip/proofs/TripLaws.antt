@@ -1,17 +1,16 @@
 -- Each trip, once the refusal of its first half is known.
 use Prim.Native.Nat.{ℕ}
-use mathlib.Core.Path.{◌≡◌, refl, sym, ap, subst, ◌∙◌}
-use mathlib.Core.Bool.{Bool, true, false, not}
-use mathlib.Core.List.{List, [], ◌∷◌, ◌++◌}
+use mathlib.Core.Path.{◌≡◌, refl, sym, ap, ◌∙◌}
+use mathlib.Core.Bool.{Bool, true, false}
+use mathlib.Core.List.{List, [], ◌∷◌}
 use mathlib.Core.Logic.{◌≢◌}
-use lib.ListN.{length}
-use lib.Dec.{eqb, ltb}
+use lib.Dec.{ltb}
 use borrow.Author.Tests.{eqb-true, ltb-false, not-false}
 use Rattle.edition.specs.Limits.{Edition, one, two, most_events}
 use Rattle.table.specs.declared.Table.{Table}
 use Rattle.decode.specs.Layout.{edition_of}
 use Rattle.decode.specs.Decoded.{decoded_as, decoded}
-use Rattle.refusals.specs.Lines.{Refused, accepted, by_line, by_record, whole, first_line, unless}
+use Rattle.refusals.specs.Lines.{Refused, accepted, by_line, whole, first_line, unless}
 use Rattle.refusals.proofs.InRange.{too_many}
 use Rattle.refusals.proofs.LineLaws.{whole_here, whole-next}
 use Rattle.refusals.proofs.PassedLaws.{refused-first, passed_first, unless-refused}

@@ -44,20 +44,16 @@ fn event(e: Event)
 fn values(v: [u16; table::LOCATIONS])
     ensures { ValuesFit v }
 {
-    let mut i: usize = 0;
-    while i < table::LOCATIONS {
-        value(v[i]);
-        i += 1;
+    for x in v {
+        value(x);
     }
 }
 
 fn events(v: [Event; table::CAPACITY])
     ensures { EventsFit v }
 {
-    let mut i: usize = 0;
-    while i < table::CAPACITY {
-        event(v[i]);
-        i += 1;
+    for e in v {
+        event(e);
     }
 }
 
@@ -80,9 +76,7 @@ pub fn table(t: Table)
 pub fn bytes(s: &[u8])
     ensures { Bytes s.now }
 {
-    let mut i: usize = 0;
-    while i < s.len() {
-        byte(s[i]);
-        i += 1;
+    for b in s {
+        byte(*b);
     }
 }

@@ -11,10 +11,8 @@ pub fn set_mask(held: [bool; RULES]) -> u16
     ensures { result ≡ set_mask held }
 {
     let mut set: u16 = 0;
-    let mut k: usize = RULES;
-    while 0 < k {
-        k -= 1;
-        set = set * 2 + held[k] as u16;
+    for k in (0..RULES).rev() {
+        set = set * 2 + u16::from(held[k]);
     }
     set
 }
@@ -26,5 +24,5 @@ pub fn lowest_rule(set: u16) -> u8
     if set == 0 {
         return 0;
     }
-    u16::trailing_zeros(set) as u8 + 1
+    set.trailing_zeros() as u8 + 1
 }

@@ -2,12 +2,11 @@
 use Prim.Native.Nat.{ℕ, ◌≤◌, ◌<◌, ◌^◌}
 use mathlib.Core.Path.{◌≡◌, refl, sym, ap, subst, ◌∙◌}
 use mathlib.Core.Bool.{Bool, true, false, not}
-use mathlib.Core.List.{List, [], ◌∷◌, ◌++◌}
+use mathlib.Core.List.{List, ◌++◌}
 use native.Mathlib.Omega.{arith}
 use lib.ListN.{length, take, drop, length-take}
 use lib.Seq.{take_at, length-take-le}
 use lib.Count.{ones, ones-le}
-use lib.Dec.{ltb}
 use borrow.Author.Tests.{lt-ltb, le-ltb}
 use Rattle.lists.specs.Reply.{Reply, refused, answered}
 use Rattle.table.specs.declared.Table.{Table}
@@ -20,7 +19,7 @@ use Rattle.prefixes.specs.Answer.{Answer, none_left}
 use Rattle.prefixes.specs.Listed.{after}
 use Rattle.prefixes.specs.Statements.{seek}
 use Rattle.prefixes.proofs.AnswerLaws.{seek-answer}
-use Rattle.model.specs.Witness.{witness_for, stated_outcome}
+use Rattle.model.specs.Witness.{witness_for}
 use Rattle.model.specs.Following.{meets}
 use Rattle.model.specs.Prefixes.{clean, prefixes_by, search_by}
 use Rattle.placing.specs.GoodTable.{GoodTable}
@@ -40,12 +39,11 @@ use Rattle.witness_walk.specs.declared.Ending.{Ending}
 use Rattle.witness_walk.specs.declared.Ending.TheVariants.{Found, NoneLeft, Spent}
 use Rattle.witness_walk.specs.Ending.{answer_of}
 use Rattle.witness_walk.specs.declared.Path.{Path}
-use Rattle.witness_walk.specs.declared.Followed.TheVariants.{Reached, Cut}
-use Rattle.witness_walk.specs.Running.{AtMost, Enters, Watching, Seeking, Follows, LeftOf, Runs, search_from}
+use Rattle.witness_walk.specs.Running.{AtMost, Enters, Watching, Follows, LeftOf, Runs, search_from}
 use Rattle.witness_walk.proofs.EntersLaws.{enters-always}
 use Rattle.witness_walk.proofs.RunLaws.{clean_is}
 use Rattle.refusals.specs.declared.Refusal.TheVariants.{Line as Line·}
-use Rattle.search.specs.declared.Start.TheVariants.{At, Unlisted}
+use Rattle.std.specs.Prelude.{Option, Some, None}
 use Rattle.search.specs.Begins.{Beginning, BeginsAs, Replied, Searches, SearchesFor}
 use Rattle.search.specs.declared.Reply as code
 use Rattle.search.specs.declared.Reply.TheVariants.{Refused as Declined, Answered}
@@ -159,19 +157,19 @@ length-within (Answered (Spent len v)) out e = omega (arith, e, length-take len 
 
 -- How a start begins: it isn't clean;
 pub begins-unclean : {facts : List (List ℕ)} {preds : List ℕ} {mem watched : ℕ} (start order goods : List ℕ) → clean_by preds mem start ≡ false →
-    BeginsAs facts preds mem watched start order goods Unlisted
+    BeginsAs facts preds mem watched start order goods None
 begins-unclean start order goods h t enters w = reachable-passes enters (clean t) start (sym (clean_is w start) ∙ h)
 
 module _ {facts : List (List ℕ)} {preds start order : List ℕ} {mem watched : ℕ} (goods : List ℕ) {len placed can : ℕ}
     (began : Began preds mem start order len placed can) where
   -- a proper prefix of it isn't entered;
-  pub begins-cut : Follows facts watched order goods len can Cut → BeginsAs facts preds mem watched start order goods Unlisted
+  pub begins-cut : Follows facts watched order goods len can None → BeginsAs facts preds mem watched start order goods None
   begins-cut f t enters w =
       ap (reachable (clean t) enters) (sym began.same)
       ∙ f t enters w.known w.entering (sym (clean_is w (take len order)) ∙ began.holds.clean)
 
   -- a walk gets to it
-  pub begins-at : {later : ℕ} → Follows facts watched order goods len can (Reached later) → LeftOf can (Reached later) →
+  pub begins-at : {later : ℕ} → Follows facts watched order goods len can (Some later) → LeftOf can (Some later) →
       length goods ≡ slots →
       Beginning facts preds mem watched start order goods (record { keep = len; masks = record { placed = placed; can = can }; later = later })
   begins-at f l long = record {
@@ -196,9 +194,10 @@ module _ {t : Table} {facts : List (List ℕ)} {preds : List ℕ} {mem watched :
       let r = call-refused t (reachable (clean t) enters) outcome start out b n (f enters e) in
       record { reply = r.0; buffer = r.1.0; length = r.1.1 }
 
-  pub unlisted-replied : {words : List ℕ} (order goods : List ℕ) → BeginsAs facts preds mem watched start order goods Unlisted →
-      Searches t facts words watched start out b (Declined (Line· 15)) out
-  unlisted-replied order goods u = line-replied 15 (λ enters e. start-refused t (reachable (clean t) enters) start out b (u t enters (watch e)))
+  pub unlisted-replied : {words : List ℕ} (order goods : List ℕ) (begun : Option Path) → ((p : Path) → begun ≡ Some p → ⊥) →
+      BeginsAs facts preds mem watched start order goods begun → Searches t facts words watched start out b (Declined (Line· 15)) out
+  unlisted-replied order goods (Some p) n u = absurd (n p refl)
+  unlisted-replied order goods None n u = line-replied 15 (λ enters e. start-refused t (reachable (clean t) enters) start out b (u t enters (watch e)))
 
   module _ {order goods : List ℕ} {from : Path} (g : Beginning facts preds mem watched start order goods from) where
     listed : {enters : List ℕ → Bool} → Enters t watched enters → reachable (clean t) enters start ≡ true

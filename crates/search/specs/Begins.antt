@@ -1,5 +1,5 @@
 -- A search call along the prefixes that a walk gets to: how it begins, and what it replies.
-use Rattle.std.specs.Prelude.{ℕ, ◌≡◌, Bool, true, false, List, ◌⊎◌, length, take}
+use Rattle.std.specs.Prelude.{ℕ, ◌≡◌, Bool, true, false, List, Option, Some, None, ◌⊎◌, length, take}
 use Rattle.table.specs.declared.Table.{Table}
 use Rattle.text_format.specs.Condition.{Condition, fits}
 use Rattle.condition_reader.specs.Words.{code as words_of}
@@ -10,8 +10,6 @@ use Rattle.engine.specs.State.{Holds}
 use Rattle.engine.specs.Entered.{reachable}
 use Rattle.witness_walk.specs.declared.Path.{Path}
 use Rattle.witness_walk.specs.Running.{Enters, Watching, Seeking, Begun}
-use Rattle.search.specs.declared.Start.{Start}
-use Rattle.search.specs.declared.Start.TheVariants.{At, Unlisted}
 use Rattle.search.specs.declared.Reply as code
 use Rattle.search.specs.Replies.{reply_of, length_of, table_reply, buffer_after, prefix_length}
 
@@ -25,9 +23,9 @@ pub record Beginning (facts : List (List ℕ)) (preds : List ℕ) (mem watched :
       Begun t enters watched order goods from.keep from.masks.can from.later
 
 -- a start that a walk doesn't get to has none
-abbrev pub BeginsAs : List (List ℕ) → List ℕ → ℕ → ℕ → List ℕ → List ℕ → List ℕ → Start → Type 0
-BeginsAs facts preds mem watched start order goods (At from) = Beginning facts preds mem watched start order goods from
-BeginsAs facts preds mem watched start order goods Unlisted =
+abbrev pub BeginsAs : List (List ℕ) → List ℕ → ℕ → ℕ → List ℕ → List ℕ → List ℕ → Option Path → Type 0
+BeginsAs facts preds mem watched start order goods (Some from) = Beginning facts preds mem watched start order goods from
+BeginsAs facts preds mem watched start order goods None =
     (t : Table) (enters : List ℕ → Bool) → Watching t facts preds mem watched enters → reachable (clean t) enters start ≡ false
 
 -- a call along the prefixes that pass, for an outcome: the reply, the buffer and the length

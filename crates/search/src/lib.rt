@@ -16,14 +16,12 @@ ghost use Rattle.witness_walk.specs.Running.{AtMost};
 ghost use Rattle.search.specs.Replies.{table_reply, buffer_after, reply_of, length_of, prefix_length};
 ghost use Rattle.search.specs.Begins.{BeginsAs, Searches, SearchesFor};
 
-use engine::Loaded;
 use event_sets::Sets;
 use fact_rows::ROWS;
-use ready_events::Masks;
 use refusals::Refusal;
 use successors::SLOTS;
 use table::{CAPACITY, Table};
-use witness_walk::{Ending, Followed, Path};
+use witness_walk::{Ending, Path};
 
 // A reply to a search call; the prefix of Found and Spent stands at the front of the answer buffer.
 #[derive(Clone, Copy)]
@@ -40,11 +38,7 @@ pub fn copy(order: &[u8; SLOTS], len: usize, out: &mut [u8])
     requires { (length order.now ≡ slots) × (len ≤ slots) × (len ≤ length out.old) }
     ensures { out.new ≡ take len order.now ++ drop len out.old }
 {
-    let mut i: usize = 0;
-    while i < len {
-        out[i] = order[i];
-        i += 1;
-    }
+    out[..len].copy_from_slice(&order[..len]);
 }
 
 // Hands out the prefix of an ending; "none left" writes nothing.
@@ -67,14 +61,7 @@ fn deliver(ending: Ending, order: &[u8; SLOTS], out: &mut [u8]) -> Reply
     }
 }
 
-// A start that was read into the order and followed along the list.
-#[derive(Clone, Copy)]
-enum Start {
-    At(Path),
-    Unlisted,
-}
-
-// Reads a start into the front of the order and follows it as the walk would.
+// Reads a start into the front of the order and follows it as the walk would; none if it isn't listed.
 fn begin(
     facts: &[[u32; CAPACITY]; ROWS],
     pred: &[u32; SLOTS],
@@ -84,28 +71,14 @@ fn begin(
     start: &[u8],
     order: &mut [u8; SLOTS],
     goods: &mut [u32; SLOTS],
-) -> Start
+) -> Option<Path>
     requires { Prepared pred.now succ.now mem × (length order.old ≡ slots) × (length goods.old ≡ slots) }
     ensures { BeginsAs facts.now pred.now mem watched start.now order.new goods.new result }
 {
-    let loaded = engine::load(pred, succ, mem, start, order);
-    match loaded {
-        Loaded::Unclean => Start::Unlisted,
-        Loaded::Ready { len, placed, can } => {
-            let followed = witness_walk::follow(facts, watched, &*order, len, can, goods);
-            match followed {
-                Followed::Cut => Start::Unlisted,
-                Followed::Reached(later) => {
-                    let masks = Masks { placed, can };
-                    Start::At(Path {
-                        keep: len,
-                        masks,
-                        later,
-                    })
-                }
-            }
-        }
-    }
+    let keep = start.len();
+    let masks = engine::load(pred, succ, mem, start, order)?;
+    let later = witness_walk::follow(facts, watched, &*order, keep, masks.can, goods)?;
+    Some(Path { keep, masks, later })
 }
 
 // A search call on a table for what the words say (without words, the outcome that it states), along the prefixes that a walk
@@ -131,21 +104,19 @@ pub fn search_by(
     let begun = begin(
         facts, &pred, &succ, mem, watched, start, &mut order, &mut goods,
     );
-    match begun {
-        Start::Unlisted => Reply::Refused(Refusal::Line(15)),
-        Start::At(from) => {
-            if out.len() < u32::count_ones(mem) as usize {
-                return Reply::Refused(Refusal::Line(16));
-            }
-            if ALLOWANCE < allowance {
-                return Reply::Refused(Refusal::Line(17));
-            }
-            let ending = witness_walk::walk(
-                facts, words, &pred, &succ, mem, watched, &mut order, &mut goods, from, allowance,
-            );
-            deliver(ending, &order, out)
-        }
+    let Some(from) = begun else {
+        return Reply::Refused(Refusal::Line(15));
+    };
+    if out.len() < u32::count_ones(mem) as usize {
+        return Reply::Refused(Refusal::Line(16));
     }
+    if ALLOWANCE < allowance {
+        return Reply::Refused(Refusal::Line(17));
+    }
+    let ending = witness_walk::walk(
+        facts, words, &pred, &succ, mem, watched, &mut order, &mut goods, from, allowance,
+    );
+    deliver(ending, &order, out)
 }
 
 // A search call on a table along its clean prefixes: no reader is watched.

@@ -1,7 +1,9 @@
-// How a search call ended, in words, and the start of the walk's next one: what the programs that walk share.
+// Search calls, single ones and those of walks, and how one ended, in words: what the programs that search share.
 #![tactic(auto)]
 
+use calls::{LIST, PREFILL};
 use console::Line;
+use search::Reply;
 use witness_walk::Ending;
 
 fn visited(line: Line, n: u64) -> Line {
@@ -12,7 +14,7 @@ fn prefix(line: Line, n: u64, len: usize) -> Line {
     visited(line, n).text(b", length ").number(len as u64)
 }
 
-pub fn ended(line: Line, o: Ending) -> Line {
+fn ended(line: Line, o: Ending) -> Line {
     match o {
         Ending::Found { len, visited: n } => prefix(line.text(b"found, "), n, len),
         Ending::NoneLeft { visited: n } => visited(line.text(b"none left, "), n),
@@ -20,25 +22,54 @@ pub fn ended(line: Line, o: Ending) -> Line {
     }
 }
 
-fn copy(from: &[u8], n: usize, to: &mut [u8]) {
-    let mut i: usize = 0;
-    while i < n && i < from.len() && i < to.len() {
-        to[i] = from[i];
-        i += 1;
+pub fn replied(line: Line, reply: Reply) -> Line {
+    match reply {
+        Reply::Refused(r) => words::refused(line, r),
+        Reply::Answered(o) => ended(line, o),
     }
 }
 
-// The start of the walk's next call, whose length it answers: what was written, or the start again.
-pub fn next_start(ending: Ending, answer: &[u8], start: &mut [u8], len: usize) -> usize {
-    match ending {
-        Ending::NoneLeft { visited: _ } => len,
-        Ending::Found { len: n, visited: _ } => {
-            copy(answer, n, start);
-            n
+// A call from the start that it is given.
+pub fn single<F: FnOnce(&[u8], &mut [u8]) -> Option<Ending>>(rt: &HostRuntime, search: F)
+    requires { F.IsAlwaysCallable search }
+{
+    let mut start = [0u8; LIST];
+    let start = calls::list(rt, &mut start);
+    let mut answer = [PREFILL; LIST];
+    search(start, calls::answer(rt, &mut answer));
+}
+
+// Where a walk is: the start of its next call.
+#[derive(Drop)]
+pub struct Walk {
+    start: [u8; LIST],
+    len: usize,
+}
+
+impl Walk {
+    pub fn new() -> Walk {
+        Walk {
+            start: [0; LIST],
+            len: 0,
         }
-        Ending::Spent { len: n, visited: _ } => {
-            copy(answer, n, start);
-            n
+    }
+
+    // The next call of the walk. The one after it starts from what this one writes, or from the same start again.
+    pub fn go_on<F: FnOnce(&[u8], &mut [u8]) -> Option<Ending>>(
+        &mut self,
+        rt: &HostRuntime,
+        search: F,
+    )
+        requires { F.IsAlwaysCallable search }
+    {
+        let mut answer = [PREFILL; LIST];
+        let start = console::front(&self.start, self.len);
+        match search(start, calls::answer(rt, &mut answer)) {
+            Some(Ending::Found { len, .. } | Ending::Spent { len, .. }) => {
+                self.start = answer;
+                self.len = len;
+            }
+            _ => {}
         }
     }
 }

@@ -2,6 +2,5 @@ pub mod SortedLaws
 pub mod RowsLaws
 pub mod CompareLaws
 pub mod PlaceLaws
-pub mod ShiftLaws
 pub mod PutLaws
 pub mod InsertLaws

@@ -6,12 +6,11 @@ use native.Mathlib.Omega.{arith}
 use mathlib.Core.Path.{◌≡◌, refl, sym, ap, ap₂, ◌∙◌}
 use mathlib.Core.List.{List, [], ◌∷◌, ◌++◌, append_assoc}
 use lib.ListN.{length, take, drop, length-append, length-drop}
-use lib.Seq.{take-take, take-append-le, drop_at, length-take-le}
+use lib.Seq.{take-take, take-append-le, take_all, drop_at, length-take-le, paste}
 use Rattle.sorted_rows.specs.Sorted.{rows, flat}
 use Rattle.sorted_rows.specs.Places.{put_at}
 use Rattle.sorted_rows.proofs.RowsLaws.{Wide, rows-length, rows_take, rows_drop, rows-wide, rows-joined}
 use Rattle.sorted_rows.proofs.RowsLaws.{flat_append, flat_rows, wide-append}
-use Rattle.sorted_rows.proofs.ShiftLaws.{shifted}
 
 -- a list with one more has one entry more
 pub put-length : (k : ℕ) (o : List ℕ) (l : List (List ℕ)) → k ≤ length l → length (put_at k o l) ≡ suc (length l)
@@ -86,15 +85,17 @@ module _ (w at last : ℕ) (o l : List ℕ) (h : at ≤ last) (fits : w * (last 
 
   -- the rows from `at` on are moved back by one, and the new one is written there
   pub put-rows :
-      let m = shifted l (w * at) (w * last) w in
-      rows w (last + 1) (take (w * at) m ++ o ++ drop (w * at + w) m) ≡ put_at at o (rows w last l)
+      let m = paste l (w * at + w) (drop (w * at) l) (w * last - w * at) in
+      rows w (last + 1) (paste m (w * at) o w) ≡ put_at at o (rows w last l)
   unfolding front back moved rest
   put-rows =
       let k = w * at + w in
       let size = length-take-le k l front-within in
-      ap₂ (λ (x y : List ℕ). rows w (last + 1) (x ++ o ++ y))
+      let end : k + (w * last - w * at) ≡ w * last + w = omega (arith, put-places w at last (length l) h fits) in
+      rw (end, take_all w o (omega (arith, wide)), append_assoc (take k l) (take (w * last - w * at) (drop (w * at) l)) rest)
+      (ap₂ (λ (x y : List ℕ). rows w (last + 1) (x ++ o ++ y))
       (take-append-le (w * at) (take k l) moved (omega (arith, size)) ∙ take-take (w * at) k l (omega arith))
       (drop_at (take k l) moved k size)
       ∙ ap₂ (rows w) count joined
       ∙ rows-joined w (front ++ (o ∷ back)) rest all-wide
-      ∙ ap₂ (λ (x y : List (List ℕ)). x ++ (o ∷ y)) (sym (rows_take w at last l h)) (sym (rows_drop w at last l h))
+      ∙ ap₂ (λ (x y : List (List ℕ)). x ++ (o ∷ y)) (sym (rows_take w at last l h)) (sym (rows_drop w at last l h)))

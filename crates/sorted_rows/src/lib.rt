@@ -14,20 +14,11 @@ pub const MOST: usize = 64;
 pub const PLACES: usize = ROW * MOST;
 
 // Whether `a` comes before `b`.
+#[tactic(auto, using(crate::proofs::CompareLaws::lt_less))]
 fn comes_before(a: &[u16], b: &[u16]) -> bool
     ensures { result ≡ less a.now b.now }
 {
-    let mut k: usize = 0;
-    while k < a.len() {
-        if b.len() <= k {
-            return false;
-        }
-        if a[k] != b[k] {
-            return a[k] < b[k];
-        }
-        k += 1;
-    }
-    a.len() < b.len()
+    a < b
 }
 
 // Whether the first `width` values come after the previous ones.
@@ -38,38 +29,12 @@ pub fn above(previous: &[u16], value: &[u16], width: usize) -> bool
     comes_before(previous, &value[..width])
 }
 
-// Writes the first `len` places of the source over those from `at` on.
-fn write(target: &mut [u16], at: usize, source: &[u16], len: usize)
-    requires { (at + len ≤ length target.old) × (len ≤ length source.now) }
-    ensures { target.new ≡ take at target.old ++ take len source.now ++
-        drop (at + len) target.old }
-{
-    let mut i: usize = 0;
-    while i < len {
-        target[at + i] = source[i];
-        i += 1;
-    }
-}
-
 // Copies the first `len` places to the front of the buffer.
 pub fn copy_rows(kept: &[u16], len: usize, out: &mut [u16])
     requires { (len ≤ length kept.now) × (len ≤ length out.old) }
     ensures { out.new ≡ take len kept.now ++ drop len out.old }
 {
-    write(out, 0, kept, len);
-}
-
-// Moves the places from `start` to `end` back by `by`, the last first.
-fn shift(kept: &mut [u16], start: usize, end: usize, by: usize)
-    requires { (start ≤ end) × (end + by ≤ length kept.old) }
-    ensures { kept.new ≡ take (start + by) kept.old ++
-        (take (end - start) (drop start kept.old) ++ drop (end + by) kept.old) }
-{
-    let mut i = end;
-    while start < i {
-        i -= 1;
-        kept[i + by] = kept[i];
-    }
+    out[..len].copy_from_slice(&kept[..len]);
 }
 
 // How many of the n rows come before the value, if they ascend: looked for by halves.
@@ -110,8 +75,8 @@ fn put(kept: &mut [u16], at: usize, last: usize, width: usize, value: &[u16])
         put_at at (take width value.now) (rows width last kept.old) }
 {
     let start = width * at;
-    shift(kept, start, width * last, width);
-    write(kept, start, value, width);
+    kept.copy_within(start..width * last, start + width);
+    kept[start..start + width].copy_from_slice(&value[..width]);
 }
 
 // Puts the first `width` values in among the n rows, which ascend, unless they are one of these; a row that there is no room for

@@ -8,7 +8,6 @@ use lib.ListN.{get_or}
 use lib.Bits.{bit_and, bit_or}
 use lib.Dec.{eqb}
 use borrow.Author.Tests.{lt-ltb, ne_eqb}
-use Rattle.lists.specs.Below.{some}
 use Rattle.lists.proofs.SomeLaws.{some_same}
 use Rattle.lists.proofs.PaddedLaws.{padded-at}
 use Rattle.masks.specs.Bit.{bit}

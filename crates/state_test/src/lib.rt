@@ -21,7 +21,7 @@ ghost use Rattle.state_test.specs.Board.{kind_row, memory_word, writers_word, re
 
 use event_sets::Sets;
 use fact_rows::{GOOD, GUARDS, NEEDS, OWN, PEERS, RIGHT, ROWS, SETS, WINDOW, WRONG};
-use masks::{has, highest_set, less, lowest_set, mask_if, one, within};
+use masks::{Ones, has, highest_set, less, lowest_set, mask_if, one, within};
 use states::State;
 use successors::SLOTS;
 use table::{CAPACITY, Table};
@@ -48,11 +48,8 @@ fn union(facts: &[[u32; CAPACITY]; ROWS], k: usize, of: u32) -> u32
     ensures { Union (mask facts.now k) of result }
 {
     let mut all: u32 = 0;
-    let mut left = of;
-    while left != 0 {
-        let e = lowest_set(left);
-        all = all | facts[k][e as usize];
-        left = left ^ one(e);
+    for e in Ones(of) {
+        all |= facts[k][e as usize];
     }
     all
 }
@@ -73,7 +70,7 @@ pub fn step(facts: &[[u32; CAPACITY]; ROWS], s: State, e: u8) -> State
     requires { e < capacity }
     ensures { Steps facts.now s e result }
 {
-    let placed = s.placed | one(e as u32);
+    let placed = s.placed | one(u32::from(e));
     let good = order_test::good_after(facts, s.good, e);
     State {
         placed,
@@ -87,7 +84,7 @@ fn ends_well(facts: &[[u32; CAPACITY]; ROWS], placed: u32, e: u8) -> bool
     ensures { Tells facts.now e (λ t. ends_well t (bit placed) e) result }
 {
     let peers = less(facts[PEERS][e as usize], placed);
-    !has(facts[SETS][WRONG], e as u32) | (peers != 0)
+    !has(facts[SETS][WRONG], u32::from(e)) | (peers != 0)
 }
 
 // If `e` reads, it would return its stated value now.
@@ -96,11 +93,7 @@ fn reads_well(facts: &[[u32; CAPACITY]; ROWS], ties: &[[u32; SLOTS]; TIES], s: S
     ensures { SaysOf facts.now ties.now e
         (λ t. reads_good t (bit s.placed) (bit s.good) e) result }
 {
-    if has(ties[KINDS][READERS], e as u32) {
-        order_test::reads_stated(facts, s.placed, s.good, e)
-    } else {
-        true
-    }
+    !has(ties[KINDS][READERS], u32::from(e)) || order_test::reads_stated(facts, s.placed, s.good, e)
 }
 
 // `e`, a memory event that isn't placed, may be placed next. What is cheap and often fails is tested first.
@@ -127,12 +120,9 @@ pub fn accepted(facts: &[[u32; CAPACITY]; ROWS], ties: &[[u32; SLOTS]; TIES], s:
     ensures { Accepted facts.now ties.now s result }
 {
     let mut can: u32 = 0;
-    let mut left = less(ties[KINDS][MEMORY], s.placed);
-    while left != 0 {
-        let e = lowest_set(left);
-        let b = one(e);
-        can = can | mask_if(may_follow(facts, ties, s, e as u8), b);
-        left = left ^ b;
+    let left = less(ties[KINDS][MEMORY], s.placed);
+    for e in Ones(left) {
+        can |= mask_if(may_follow(facts, ties, s, e as u8), one(e));
     }
     can
 }
@@ -144,13 +134,11 @@ fn lost_read(facts: &[[u32; CAPACITY]; ROWS], ties: &[[u32; SLOTS]; TIES], s: St
         (λ t. some t.count (lost_read t (bit s.placed) (bit s.good))) result }
 {
     let answered = union(facts, RIGHT, less(ties[KINDS][WRITERS], s.placed));
-    let mut left = less(less(ties[KINDS][READERS], s.placed), answered);
-    while left != 0 {
-        let r = lowest_set(left);
+    let left = less(less(ties[KINDS][READERS], s.placed), answered);
+    for r in Ones(left) {
         if !order_test::reads_stated(facts, s.placed, s.good, r as u8) {
             return true;
         }
-        left = left ^ one(r);
     }
     false
 }
@@ -160,13 +148,11 @@ fn lost_final(facts: &[[u32; CAPACITY]; ROWS], placed: u32) -> bool
     ensures { FactsSay facts.now (λ t. some t.count (lost_final t (bit placed))) result }
 {
     let wrong = facts[SETS][WRONG];
-    let mut left = less(wrong, placed);
-    while left != 0 {
-        let w = lowest_set(left);
+    let left = less(wrong, placed);
+    for w in Ones(left) {
         if within(less(facts[PEERS][w as usize], placed), wrong) {
             return true;
         }
-        left = left ^ one(w);
     }
     false
 }
@@ -175,11 +161,7 @@ fn lost_final(facts: &[[u32; CAPACITY]; ROWS], placed: u32) -> bool
 pub fn is_lost(facts: &[[u32; CAPACITY]; ROWS], ties: &[[u32; SLOTS]; TIES], s: State) -> bool
     ensures { Says facts.now ties.now (λ t. lost t s) result }
 {
-    if lost_final(facts, s.placed) {
-        true
-    } else {
-        lost_read(facts, ties, s)
-    }
+    lost_final(facts, s.placed) || lost_read(facts, ties, s)
 }
 
 // The events that, placed now, would open a window that a writer still to come may meet.
@@ -249,13 +231,10 @@ fn persists(
     if (set == 0) | (set & placed != 0) {
         return false;
     }
-    let mut left = set;
-    while left != 0 {
-        let e = lowest_set(left);
+    for e in Ones(set) {
         if !is_kept(facts, ties, placed, set, e as u8) {
             return false;
         }
-        left = left ^ one(e);
     }
     true
 }
@@ -285,13 +264,14 @@ fn grow(facts: &[[u32; CAPACITY]; ROWS], ties: &[[u32; SLOTS]; TIES], placed: u3
 {
     let mut set = one(seed);
     let mut new = set;
-    let mut rounds: usize = 0;
-    while (new != 0) & (rounds < CAPACITY) {
+    for _ in 0..CAPACITY {
+        if new == 0 {
+            break;
+        }
         let e = lowest_set(new);
         let more = less(wanted(facts, ties, placed, set, e as u8), set);
-        set = set | more;
+        set |= more;
         new = (new ^ one(e)) | more;
-        rounds += 1;
     }
     set
 }
@@ -306,16 +286,16 @@ fn smallest(
 ) -> u32 {
     let mut best = can;
     let mut fewest = u32::count_ones(can);
-    let mut left = can;
-    while (left != 0) & (1 < fewest) {
-        let e = lowest_set(left);
+    for e in Ones(can) {
+        if fewest <= 1 {
+            break;
+        }
         let set = grow(facts, ties, placed, e);
         let tried = u32::count_ones(set & can);
         if tried < fewest {
             best = set;
             fewest = tried;
         }
-        left = left ^ one(e);
     }
     best
 }
@@ -362,11 +342,9 @@ pub fn ties_of(t: Table, s: Sets) -> [[u32; SLOTS]; TIES]
 {
     let memory = table::memory_mask(t);
     let mut place = [0u32; SLOTS];
-    let mut e: u8 = 0;
-    while e < t.count {
+    for e in 0..t.count {
         let x = t.events[e as usize].location.0;
         place[e as usize] = memory & s.locations[x as usize];
-        e += 1;
     }
     let before = precedence::predecessors(t, s);
     let kinds = words(memory, s.writers, s.readers);

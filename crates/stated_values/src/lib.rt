@@ -1,7 +1,7 @@
 // Load value, the values read, the final values: the lowest place where each is broken.
 #![tactic(auto)]
 
-ghost use Rattle.std.specs.Prelude.{◌≤◌, ◌<◌, ◌≡◌, length};
+ghost use Rattle.std.specs.Prelude.{◌≤◌, ◌<◌, ◌≡◌, SomeIff, length};
 ghost use Rattle.lists.specs.Below.{lowest};
 ghost use Rattle.edition.specs.Limits.{max_locations};
 ghost use Rattle.table.specs.Events.{capacity};
@@ -23,19 +23,17 @@ fn breaks_load_value(t: Table, rf: &[u8], gmo: &[u8], r: EventNo) -> bool
     }
 }
 
-// The lowest such reader; the number of events if there is none.
-pub fn lowest_load_value(t: Table, rf: &[u8], gmo: &[u8]) -> EventNo
+// The lowest such reader.
+pub fn lowest_load_value(t: Table, rf: &[u8], gmo: &[u8]) -> Option<EventNo>
     requires { (t.count ≤ capacity) × (length rf.now ≡ t.count) }
-    ensures { result.0 ≡ lowest t.count (breaks_load_value t rf.now gmo.now) }
+    ensures { let r = lowest t.count (breaks_load_value t rf.now gmo.now) in SomeIff result (r < t.count) (record { 0 = r }) }
 {
-    let mut r: u8 = 0;
-    while r < t.count {
+    for r in 0..t.count {
         if breaks_load_value(t, rf, gmo, EventNo(r)) {
-            return EventNo(r);
+            return Some(EventNo(r));
         }
-        r += 1;
     }
-    EventNo(t.count)
+    None
 }
 
 // Reader r doesn't return its stated value.
@@ -51,19 +49,17 @@ fn breaks_value_read(t: Table, rf: &[u8], r: EventNo) -> bool
     }
 }
 
-// The lowest such reader; the number of events if there is none.
-pub fn lowest_value_read(t: Table, rf: &[u8]) -> EventNo
+// The lowest such reader.
+pub fn lowest_value_read(t: Table, rf: &[u8]) -> Option<EventNo>
     requires { (t.count ≤ capacity) × (length rf.now ≡ t.count) }
-    ensures { result.0 ≡ lowest t.count (breaks_value_read t rf.now) }
+    ensures { let r = lowest t.count (breaks_value_read t rf.now) in SomeIff result (r < t.count) (record { 0 = r }) }
 {
-    let mut r: u8 = 0;
-    while r < t.count {
+    for r in 0..t.count {
         if breaks_value_read(t, rf, EventNo(r)) {
-            return EventNo(r);
+            return Some(EventNo(r));
         }
-        r += 1;
     }
-    EventNo(t.count)
+    None
 }
 
 // A final value is stated of location x, and the order leaves another.
@@ -78,17 +74,15 @@ fn breaks_final_value(t: Table, gmo: &[u8], x: LocationNo) -> bool
     }
 }
 
-// The lowest such location; the number of locations if there is none.
-pub fn lowest_final_value(t: Table, gmo: &[u8]) -> LocationNo
+// The lowest such location.
+pub fn lowest_final_value(t: Table, gmo: &[u8]) -> Option<LocationNo>
     requires { t.locations ≤ max_locations }
-    ensures { result.0 ≡ lowest t.locations (breaks_final_value t gmo.now) }
+    ensures { let x = lowest t.locations (breaks_final_value t gmo.now) in SomeIff result (x < t.locations) (record { 0 = x }) }
 {
-    let mut x: u8 = 0;
-    while x < t.locations {
+    for x in 0..t.locations {
         if breaks_final_value(t, gmo, LocationNo(x)) {
-            return LocationNo(x);
+            return Some(LocationNo(x));
         }
-        x += 1;
     }
-    LocationNo(t.locations)
+    None
 }

@@ -8,20 +8,22 @@ use lib.ListN.{get_or}
 use lib.Bits.{bit_and, bit_or, bit_xor}
 use lib.Dec.{eqb, ltb}
 use borrow.Author.Tests.{eqb-true, eq-eqb, lt-ltb}
-use Rattle.lists.specs.Lists.{has}
+use Rattle.std.specs.Prelude.{Some, None}
+use Rattle.lists.specs.Below.{below}
+use Rattle.lists.specs.Lists.{has, last_or}
 use Rattle.lists.proofs.BoolLaws.{and-within, is_false, not-either, eqb_comm}
 use Rattle.lists.proofs.SomeLaws.{some_same}
 use Rattle.lists.proofs.PaddedLaws.{padded-at}
 use Rattle.masks.specs.Bit.{bit}
 use Rattle.masks.specs.Parts.{highest}
-use Rattle.masks.proofs.BitLaws.{bit-or, bit-pow}
+use Rattle.masks.proofs.BitLaws.{bit-and, bit-or, bit-pow}
 use Rattle.masks.proofs.MaskOfLaws.{mask_below}
 use Rattle.masks.proofs.BelowLaws.{mask-meets}
 use Rattle.masks.proofs.GatherLaws.{bit-if}
 use Rattle.masks.proofs.HighestLaws.{mask-none-last, mask-last}
 use Rattle.masks.proofs.SetLaws.{bit-without, marks-set, set_is, set_same, set-within}
 use Rattle.table.specs.declared.Table.{Table}
-use Rattle.table.specs.Events.{event, kind, hart, location, reads, writes, memory, same_location, store, sc}
+use Rattle.table.specs.Events.{event, kind, hart, location, reads, writes, memory, same_location, sc}
 use Rattle.table.specs.Annotations.{address_depends, data_depends}
 use Rattle.table.specs.Counts.{Small}
 use Rattle.model.specs.Rules.{static_ppo}
@@ -33,6 +35,7 @@ use Rattle.event_sets.proofs.SetsLaws.{set-has, hart-at, location-at}
 use Rattle.precedence.specs.Precedence.{predecessor_mask, predecessor_masks}
 use Rattle.machine.specs.Machine.{State, buffered, waits, forwards, newest, unsure, enter, perform, drain}
 use Rattle.machine.proofs.TsoLaws.{TsoTable}
+use Rattle.steps.specs.Steps.{IsNewest}
 use Rattle.machine.proofs.StateLaws.{Reached, Next, stores, stores-is, store-reads, buffered-is, next-away}
 use Rattle.machine.proofs.BufferLaws.{enter-other, drain-other, perform-other, enter-own, drain-own}
 
@@ -101,13 +104,39 @@ module _ (t : Table) (s : State) (held : ℕ) (q : held ≡ set_of t (buffered t
       (marks-set t.count (λ w. eqb (location t w) (location t r)))
 
   -- the newest of them
-  pub newest-none : (r own : ℕ) → own ≡ set_of t (forwards t s r) → own ≡ 0 → t.count ≡ newest t s r
+  pub newest-none : (r own : ℕ) → own ≡ set_of t (forwards t s r) → own ≡ 0 → IsNewest t s r None
   unfolding newest
-  newest-none r own e z = sym (mask-none-last (forwards t s r) t.count (sym e ∙ z))
+  newest-none r own e z l = absurd (omega (arith, mask-none-last (forwards t s r) t.count (sym e ∙ z), l))
 
-  pub newest-some : (r own : ℕ) → own ≡ set_of t (forwards t s r) → t.count ≤ 32 → (own ≡ 0 → ⊥) → highest own ≡ newest t s r
+  pub newest-some : (r own w : ℕ) → own ≡ set_of t (forwards t s r) → t.count ≤ 32 → (own ≡ 0 → ⊥) → w ≡ highest own →
+      IsNewest t s r (Some (record { 0 = w }))
   unfolding newest
-  newest-some r own e l n = ap highest e ∙ sym (mask-last (forwards t s r) t.count l (λ z. n (e ∙ z))).0
+  newest-some r own w e l n q = (omega (arith, top.0, top.1), ap (λ (i : ℕ). record { 0 = i }) (q ∙ ap highest e ∙ sym top.0))
+    where
+      top : (last_or (forwards t s r) t.count (below t.count) ≡ highest (set_of t (forwards t s r)))
+          × (highest (set_of t (forwards t s r)) < t.count)
+      top = mask-last (forwards t s r) t.count l (λ z. n (e ∙ z))
+
+-- where a mask meets a set of the table's events, the highest that is in both is one of them
+inside-set : (t : Table) (f : ℕ → Bool) (m : ℕ) → t.count ≤ 32 → ¬ (bit_and m (set_of t f) ≡ 0) → highest (bit_and m (set_of t f)) < t.count
+inside-set t f m l n = rw both (mask-last (λ k. bit m k && f k) t.count l (λ z. n (both ∙ z))).1
+  where
+    order : (x y z : Bool) → (x && (y && z)) ≡ (y && (x && z))
+    order true y z = refl
+    order false true z = refl
+    order false false z = refl
+
+    both : bit_and m (set_of t f) ≡ set_of t (λ k. bit m k && f k)
+    both =
+        set_is t.count (bit_and m (set_of t f)) (λ k. bit m k && f k)
+        (λ k. bit-and m (set_of t f) k ∙ ap (λ (b : Bool). bit m k && b) (mask_below f t.count k) ∙ order (bit m k) (ltb k t.count) (f k))
+
+pub newest-inside : (t : Table) (v : Sets) → v ≡ sets_of t → Small t → (r : ℕ) → r < t.count → (m : ℕ) →
+    ¬ (bit_and m (get_or v.locations (location t r) 0) ≡ 0) → highest (bit_and m (get_or v.locations (location t r) 0)) < t.count
+newest-inside t v e small r l m =
+    subst (λ (x : ℕ). ¬ (bit_and m x ≡ 0) → highest (bit_and m x) < t.count)
+    (sym (location-at t v e (location t r) (small.each-location r l)))
+    (inside-set t (λ w. eqb (location t w) (location t r)) m (omega (arith, small.events)))
 
 module _ (t : Table) (s : State) (e : ℕ) where
   -- a store enters its buffer

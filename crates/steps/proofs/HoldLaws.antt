@@ -2,26 +2,29 @@
 use Prim.Native.Nat.{ℕ, ◌+◌, ◌^◌, ◌≤◌, ◌<◌}
 use native.Mathlib.Omega.{arith}
 use native.Mathlib.Numerals.{add-one}
-use mathlib.Core.Path.{◌≡◌, refl, ap, ap₂, subst, ◌∙◌}
+use mathlib.Core.Path.{◌≡◌, refl, sym, ap, ap₂, ◌∙◌}
 use mathlib.Core.Bool.{Bool, true, false, cond, not, ◌&&◌}
 use mathlib.Core.List.{List, [], ◌∷◌, ◌++◌}
 use lib.ListN.{length, take, set, length-set}
 use lib.Seq.{length-take-le, take-suc-set, take-set-lt}
 use lib.Bits.{bit_and, bit_or, bit_xor}
-use lib.Dec.{eqb}
+use lib.Dec.{eqb, ltb}
+use borrow.Author.Tests.{lt-ltb, le-ltb}
+use Rattle.std.specs.Prelude.{Option, Some, None}
 use Rattle.lists.specs.Below.{lowest, some}
 use Rattle.lists.specs.Lists.{has}
 use Rattle.lists.proofs.SomeLaws.{lowest-same}
 use Rattle.masks.specs.Bit.{bit}
+use Rattle.table.specs.declared.EventNo.{EventNo}
 use Rattle.table.specs.declared.Table.{Table}
 use Rattle.table.specs.Events.{hart, reads, writes}
 use Rattle.model.specs.Axioms.{breaks_pair}
 use Rattle.event_sets.proofs.SetsLaws.{set-has}
-use Rattle.machine.specs.Machine.{State, next, buffered, oldest, may_issue, newest, returned, may_drain, enter, perform, drain}
+use Rattle.machine.specs.Machine.{State, next, buffered, oldest, waits, unsure, may_issue, newest, returned, may_drain, enter, perform, drain}
 use Rattle.machine.proofs.StateLaws.{Reached, Next}
 use Rattle.steps.specs.declared.Done.{Done}
 use Rattle.steps.specs.declared.Machine.{Machine}
-use Rattle.steps.specs.Steps.{Made, Room, Holds, may_read, returned_by}
+use Rattle.steps.specs.Steps.{Made, Room, Holds, IsNewest, may_read, returned_by}
 use Rattle.steps.proofs.BufferMasks.{held-enter, held-perform, held-drain, left-issue}
 
 -- the first entries, of each event one; and one event more
@@ -47,9 +50,19 @@ module _ (t : Table) (d : Done) (order rf : List ℕ) (s : State) (h : Holds t d
       (λ e l. ap (λ (x : Bool). eqb (hart t e) b && x) (set-has t (buffered t s) d.held e h.held l))
 
   -- what a reader returns, by the order so far
-  pub returned-is : (e w v : ℕ) → w ≡ newest t s e → v ≡ returned_by t (take d.len order) e w → v ≡ returned t s e
+  pub returned-is : (e : ℕ) (w : Option EventNo) (v : ℕ) → IsNewest t s e w → v ≡ returned_by t (take d.len order) e w → v ≡ returned t s e
   unfolding returned
-  returned-is e w v p q = q ∙ ap₂ (λ (l : List ℕ) (i : ℕ). returned_by t l e i) h.placed p
+  returned-is e None v p q =
+      rw (le-ltb (newest t s e) t.count (omega (arith, p))) (q ∙ ap (λ (l : List ℕ). returned_by t l e None) h.placed)
+  returned-is e (Some w) v p q =
+      rw (lt-ltb (newest t s e) t.count p.0) (q ∙ ap₂ (λ (l : List ℕ) (i : EventNo). returned_by t l e (Some i)) h.placed p.1)
+
+  -- what is asked of it, by the newest store
+  may-read-is : (e : ℕ) (w : Option EventNo) → IsNewest t s e w →
+      may_read t s e w ≡ (not (waits t s e) && not (ltb (newest t s e) t.count && unsure t s (newest t s e)))
+  may-read-is e None p = rw (le-ltb (newest t s e) t.count (omega (arith, p))) refl
+  may-read-is e (Some w) p =
+      rw (lt-ltb (newest t s e) t.count p.0) (ap (λ (i : EventNo). not (waits t s e) && not (unsure t s i.0)) p.1)
 
   module _ (room : Room d order rf) (e : ℕ) (inside : e < t.count) where
     -- the order with e
@@ -76,12 +89,12 @@ module _ (t : Table) (d : Done) (order rf : List ℕ) (s : State) (h : Holds t d
         }
 
     -- a reader is performed
-    pub issue-performs : (left b v w : ℕ) → reads t e ≡ true → may_read t s e w ≡ true → w ≡ newest t s e → b ≡ 2 ^ e →
+    pub issue-performs : (left b v : ℕ) (w : Option EventNo) → reads t e ≡ true → may_read t s e w ≡ true → IsNewest t s e w → b ≡ 2 ^ e →
         left ≡ bit_xor d.left (bit_and d.left b) → v ≡ returned t s e →
         let after : Done = record { left = left; held = d.held; len = d.len + 1 } in
         (may_issue t s e ≡ true) × (e ≡ e) × Holds t after (set order d.len e) (set rf e v) (cond (reads t e) (perform t s e) (enter s e))
     unfolding may_issue perform
-    issue-performs left b v w g may x p q z = rw g (subst (λ (i : ℕ). may_read t s e i ≡ true) x may, refl, performed)
+    issue-performs left b v w g may x p q z = rw g (sym (may-read-is e w x) ∙ may, refl, performed)
       where
         performed : Holds t (record { left = left; held = d.held; len = d.len + 1 }) (set order d.len e) (set rf e v) (perform t s e)
         performed = record {
@@ -92,9 +105,9 @@ module _ (t : Table) (d : Done) (order rf : List ℕ) (s : State) (h : Holds t d
         }
 
     -- or may not be
-    pub issue-refused : (w : ℕ) → reads t e ≡ true → may_read t s e w ≡ false → w ≡ newest t s e → may_issue t s e ≡ false
+    pub issue-refused : (w : Option EventNo) → reads t e ≡ true → may_read t s e w ≡ false → IsNewest t s e w → may_issue t s e ≡ false
     unfolding may_issue
-    issue-refused w g may x = rw g (subst (λ (i : ℕ). may_read t s e i ≡ false) x may)
+    issue-refused w g may x = rw g (sym (may-read-is e w x) ∙ may)
 
     -- a store drains, if atomicity allows it
     pub drain-asked : not (some t.count (λ l. breaks_pair t (take t.count rf) (take (d.len + 1) (set order d.len e)) l e))

@@ -8,6 +8,7 @@ use lib.ListN.{length, get_or, take, replicate, get_or-replicate}
 use lib.Seq.{length-take-le, get_or-take}
 use lib.Dec.{eqb}
 use borrow.Author.Tests.{eq-eqb, ne_eqb, ltb-true}
+use Rattle.std.specs.Prelude.{Some}
 use Rattle.lists.specs.Reply.{refused, answered}
 use Rattle.lists.proofs.BoolLaws.{and_l, and_right}
 use Rattle.lists.proofs.FilledLaws.{up_to-same}
@@ -22,8 +23,7 @@ use Rattle.machine.proofs.TsoLaws.{TsoTable}
 use Rattle.machine.proofs.StateLaws.{Reached}
 use Rattle.machine.proofs.StepLaws.{reached-start}
 use Rattle.machine.proofs.RunLaws.{reached-run}
-use Rattle.steps.specs.declared.Done.{Done}
-use Rattle.steps.specs.declared.Step.TheVariants.{Taken}
+use Rattle.steps.specs.declared.Taken.{Taken}
 use Rattle.steps.specs.Steps.{Outcome, Begun}
 use Rattle.steps.specs.Replies.{answer_to, step_lines, step_reply}
 
@@ -63,19 +63,19 @@ module _ (t : Table) (bs : List ℕ) (b : ℕ) where
     pub reached : Reached t (state t bs)
     reached = reached-run k (start t) bs (reached-start t) run
 
-    module _ {order rf : List ℕ} {event : ℕ} {done : Done}
-        (h : Outcome t (accepts t (state t bs) b) (event_of t (state t bs) b) (stepped t (state t bs) b) order rf (Taken event done)) where
+    module _ {order rf : List ℕ} {step : Taken}
+        (h : Outcome t (accepts t (state t bs) b) (event_of t (state t bs) b) (stepped t (state t bs) b) order rf (Some step)) where
       -- the step's event is one of the table
-      pub event-inside : event < t.count
+      pub event-inside : step.event.0 < t.count
       unfolding accepts
       event-inside =
           subst (λ (x : ℕ). x < t.count) (sym h.1) (ltb-true (event_of t (state t bs) b) t.count (and_l _ _ h.0))
 
       -- its answer
-      pub taken : (entry : ℕ) → entry ≡ from rf event → answered (record { event = event; entry = entry }) ≡ step_reply t bs b
+      pub taken : (entry : ℕ) → entry ≡ from rf step.event.0 → answered (record { event = step.event.0; entry = entry }) ≡ step_reply t bs b
       unfolding step_reply step_lines first_line line24 answer_to entry_of from
       taken entry q =
           rw (eq-eqb t.model rvtso k.tso, run, h.0)
           (ap₂ (λ (x y : ℕ). answered (record { event = x; entry = y })) h.1
-          (q ∙ sym (get_or-take t.count rf event nothing event-inside)
+          (q ∙ sym (get_or-take t.count rf step.event.0 nothing event-inside)
           ∙ ap₂ (λ (l : List ℕ) (x : ℕ). get_or l x nothing) h.2.returned h.1))

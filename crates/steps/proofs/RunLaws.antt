@@ -9,6 +9,7 @@ use lib.ListN.{length, get_or, drop, length-take, drop_of_length-le}
 use lib.Seq.{drop-cons}
 use lib.Dec.{ltb}
 use borrow.Author.Tests.{lt-ltb, le-ltb}
+use Rattle.std.specs.Prelude.{Option, Some}
 use Rattle.lists.specs.Below.{first_from, up_from, below}
 use Rattle.lists.specs.Lists.{has}
 use Rattle.lists.proofs.BoolLaws.{and_l}
@@ -29,8 +30,7 @@ use Rattle.machine.proofs.TsoLaws.{TsoTable}
 use Rattle.machine.proofs.StateLaws.{Reached, Next, stores, next-is}
 use Rattle.machine.proofs.StepLaws.{reached-start, reached-step}
 use Rattle.steps.specs.declared.Done.{Done}
-use Rattle.steps.specs.declared.Step.{Step}
-use Rattle.steps.specs.declared.Step.TheVariants.{Taken}
+use Rattle.steps.specs.declared.Taken.{Taken}
 use Rattle.steps.specs.Steps.{Room, Holds, Outcome, Begun}
 
 -- e is the next of its hart
@@ -40,7 +40,7 @@ is-next t s b e q l = subst (Next t s) (sym q) (next-is t s b (subst (λ (x : �
 module _ (t : Table) (order rf : List ℕ) where
   module _ (s : State) (b : ℕ) where
     -- it issues
-    pub take-issues : (e : ℕ) (r : Step) → b < max_harts → e ≡ next t s b → e < t.count →
+    pub take-issues : (e : ℕ) (r : Option Taken) → b < max_harts → e ≡ next t s b → e < t.count →
         Outcome t (may_issue t s e) e (cond (reads t e) (perform t s e) (enter s e)) order rf r →
         Outcome t (accepts t s b) (event_of t s b) (stepped t s b) order rf r
     unfolding accepts event_of stepped
@@ -49,26 +49,26 @@ module _ (t : Table) (order rf : List ℕ) where
         (subst (λ (x : ℕ). Outcome t (ltb x t.count && may_issue t s x) x (cond (reads t x) (perform t s x) (enter s x)) order rf r) q
         (rw (lt-ltb e t.count i) h))
 
-    pub take-issues-none : (e : ℕ) → b < max_harts → e ≡ next t s b → t.count ≤ e → accepts t s b ≡ false
+    pub take-issues-none : (e : ℕ) → b < max_harts → e ≡ next t s b → ¬ (e < t.count) → accepts t s b ≡ false
     unfolding accepts event_of
     take-issues-none e l q i =
         rw (lt-ltb b max_harts l)
-        (ap (λ (x : Bool). x && may_issue t s (next t s b)) (ap (λ (x : ℕ). ltb x t.count) (sym q) ∙ le-ltb e t.count i))
+        (ap (λ (x : Bool). x && may_issue t s (next t s b)) (ap (λ (x : ℕ). ltb x t.count) (sym q) ∙ le-ltb e t.count (omega (arith, i))))
 
     -- it drains
-    pub take-drains : (e : ℕ) (r : Step) → max_harts ≤ b → e ≡ oldest t s (b - max_harts) → e < t.count →
+    pub take-drains : (e : ℕ) (r : Option Taken) → max_harts ≤ b → e ≡ oldest t s (b - max_harts) → e < t.count →
         Outcome t (may_drain t s e) e (drain s e) order rf r → Outcome t (accepts t s b) (event_of t s b) (stepped t s b) order rf r
     unfolding accepts event_of stepped
     take-drains e r l q i h =
         rw (le-ltb b max_harts l)
         (subst (λ (x : ℕ). Outcome t (ltb x t.count && may_drain t s x) x (drain s x) order rf r) q (rw (lt-ltb e t.count i) h))
 
-    pub take-drains-none : (e : ℕ) → max_harts ≤ b → e ≡ oldest t s (b - max_harts) → t.count ≤ e → accepts t s b ≡ false
+    pub take-drains-none : (e : ℕ) → max_harts ≤ b → e ≡ oldest t s (b - max_harts) → ¬ (e < t.count) → accepts t s b ≡ false
     unfolding accepts event_of
     take-drains-none e l q i =
         rw (le-ltb b max_harts l)
         (ap (λ (x : Bool). x && may_drain t s (oldest t s (b - max_harts)))
-        (ap (λ (x : ℕ). ltb x t.count) (sym q) ∙ le-ltb e t.count i))
+        (ap (λ (x : ℕ). ltb x t.count) (sym q) ∙ le-ltb e t.count (omega (arith, i))))
 
 long-from : (k m : ℕ) → length (up_from k m) ≡ m
 unfolding up_from
@@ -153,9 +153,9 @@ module _ {t : Table} {bs order rf : List ℕ} where
           ∙ ap (λ (x : Bool). x && is_run t (stepped t v.at (get_or bs i 0)) (drop (i + 1) bs)) h
 
       -- is
-      pub run_more : TsoTable t → {order' rf' : List ℕ} {d' : Done} {e : ℕ} →
+      pub run_more : TsoTable t → {order' rf' : List ℕ} {step : Taken} →
           Outcome t (accepts t v.at (get_or bs i 0)) (event_of t v.at (get_or bs i 0)) (stepped t v.at (get_or bs i 0)) order' rf'
-          (Taken e d') → length order' ≡ slots → length rf' ≡ slots → Running t bs order' rf' d' (i + 1)
+          (Some step) → length order' ≡ slots → length rf' ≡ slots → Running t bs order' rf' step.done (i + 1)
       unfolding is_run after
       run_more k h o r = record {
         at = stepped t v.at (get_or bs i 0);

@@ -1,14 +1,14 @@
 // One step of the machine for RVTSO, behind a list of steps.
 #![tactic(auto)]
 
-ghost use Rattle.std.specs.Prelude.{◌<◌, ◌≡◌, not, ◌&&◌, length, eqb};
+ghost use Rattle.std.specs.Prelude.{◌<◌, ◌≡◌, not, ◌&&◌, IfSome, SomeIff, length, eqb};
 ghost use Rattle.lists.specs.Below.{lowest, some};
 ghost use Rattle.masks.specs.Bit.{bit};
 ghost use Rattle.table.specs.Counts.{Small};
 ghost use Rattle.table.specs.Events.{capacity, hart};
 ghost use Rattle.model.specs.Axioms.{breaks_pair};
-ghost use Rattle.machine.specs.Machine.{newest, unsure};
-ghost use Rattle.steps.specs.Steps.{Made, Room, OfBuffers, may_read, returned_by, Issues, Drains, Steps, Begun, RunsAs};
+ghost use Rattle.machine.specs.Machine.{unsure};
+ghost use Rattle.steps.specs.Steps.{Made, Room, OfBuffers, IsNewest, may_read, returned_by, Issues, Drains, Steps, Begun, RunsAs};
 ghost use Rattle.steps.specs.Replies.{IfTso, step_reply, step_of};
 
 use event_sets::{HARTS, Sets};
@@ -35,17 +35,11 @@ struct Done {
     len: usize,
 }
 
-// A step, and the steps of a list.
+// A step that was taken: its event, and what is done with it.
 #[derive(Clone, Copy)]
-enum Step {
-    Taken { event: u8, done: Done },
-    Refused,
-}
-
-#[derive(Clone, Copy)]
-enum Ran {
-    Reaches(Done),
-    Breaks,
+struct Taken {
+    event: EventNo,
+    done: Done,
 }
 
 // A reply to a step: its event, and what a returned list holds for it.
@@ -55,35 +49,34 @@ pub enum StepReply {
     Taken { event: u8, entry: u8 },
 }
 
-// The lowest event of hart h in the mask; the number of events if there is none. Any number may be a hart's.
-fn first_of(t: Table, m: u32, h: u64) -> u8
+// The lowest event of hart h in the mask. Any number may be a hart's.
+fn first_of(t: Table, m: u32, h: u64) -> Option<EventNo>
     requires { t.count < capacity }
-    ensures { result ≡ lowest t.count (λ e. eqb (hart t e) h && bit m e) }
+    ensures { let e = lowest t.count (λ e. eqb (hart t e) h && bit m e) in SomeIff result (e < t.count) (record { 0 = e }) }
 {
-    let mut e: u8 = 0;
-    while e < t.count {
+    for e in 0..t.count {
         let y = t.events[e as usize];
-        if (y.hart as u64 == h) & has(m, e as u32) {
-            return e;
+        if (u64::from(y.hart) == h) & has(m, e as u32) {
+            return Some(EventNo(e));
         }
-        e += 1;
     }
-    t.count
+    None
 }
 
-// The newest store in the buffer of r's hart to r's location; the number of events if there is none.
-fn newest(m: Machine, held: u32, r: EventNo) -> u8
+// The newest store in the buffer of r's hart to r's location.
+fn newest(m: Machine, held: u32, r: EventNo) -> Option<EventNo>
     requires { Made m × (r.0 < m.table.count) }
-    ensures { OfBuffers m.table held (λ s. result ≡ newest m.table s r.0) }
+    ensures inside { IfSome result (λ w. w.0 < m.table.count) }
+    ensures newest { OfBuffers m.table held (λ s. IsNewest m.table s r.0 result) }
 {
     let t = m.table;
     let y = t.events[r.0 as usize];
     let s = m.sets;
     let own = held & s.harts[y.hart as usize] & s.locations[y.location.0 as usize];
     if own == 0 {
-        t.count
+        None
     } else {
-        highest_set(own) as u8
+        Some(EventNo(highest_set(own) as u8))
     }
 }
 
@@ -98,29 +91,28 @@ fn unsure(m: Machine, held: u32, w: EventNo) -> bool
 }
 
 // The reader r may issue, where w is that newest store.
-fn may_read(m: Machine, held: u32, r: EventNo, w: EventNo) -> bool
-    requires { Made m × (r.0 < m.table.count) }
-    ensures { OfBuffers m.table held (λ s. result ≡ may_read m.table s r.0 w.0) }
+fn may_read(m: Machine, held: u32, r: EventNo, w: Option<EventNo>) -> bool
+    requires { Made m × (r.0 < m.table.count) × IfSome w (λ e. e.0 < m.table.count) }
+    ensures { OfBuffers m.table held (λ s. result ≡ may_read m.table s r.0 w) }
 {
     if held & m.pred[r.0 as usize] != 0 {
         return false;
     }
-    if w.0 < m.table.count {
-        return !unsure(m, held, w);
+    match w {
+        Some(w) => !unsure(m, held, w),
+        None => true,
     }
-    true
 }
 
 // What the reader r returns from.
-fn returned(t: Table, gmo: &[u8], r: EventNo, w: EventNo) -> u8
+fn returned(t: Table, gmo: &[u8], r: EventNo, w: Option<EventNo>) -> u8
     requires { (r.0 < t.count) × (t.count < capacity) }
-    ensures { result ≡ returned_by t gmo.now r.0 w.0 }
+    ensures { result ≡ returned_by t gmo.now r.0 w }
 {
     let y = t.events[r.0 as usize];
-    if (w.0 < t.count) & (y.kind != Kind::AMO) {
-        w.0
-    } else {
-        returns::last_writer(t, gmo, y.location)
+    match w {
+        Some(w) if y.kind != Kind::AMO => w.0,
+        _ => returns::last_writer(t, gmo, y.location),
     }
 }
 
@@ -129,18 +121,16 @@ fn atomic(t: Table, rf: &[u8], gmo: &[u8], e: EventNo) -> bool
     requires { (e.0 < t.count) × (t.count < capacity) × (length rf.now ≡ t.count) }
     ensures { result ≡ not (some t.count (λ l. breaks_pair t rf.now gmo.now l e.0)) }
 {
-    let mut l: u8 = 0;
-    while l < t.count {
+    for l in 0..t.count {
         if atomicity::breaks_pair(t, rf, gmo, EventNo(l), e) {
             return false;
         }
-        l += 1;
     }
     true
 }
 
 // A hart issues its next event e.
-fn issue(m: Machine, done: Done, order: &mut [u8], rf: &mut [u8], e: EventNo) -> Step
+fn issue(m: Machine, done: Done, order: &mut [u8], rf: &mut [u8], e: EventNo) -> Option<Taken>
     requires { Made m × (e.0 < m.table.count) × Room done order.old rf.old }
     ensures { Issues m.table done order.old rf.old e.0 order.new rf.new result }
 {
@@ -151,30 +141,23 @@ fn issue(m: Machine, done: Done, order: &mut [u8], rf: &mut [u8], e: EventNo) ->
     let len = done.len;
     if !table::reads(y) {
         let held = done.held | mask_if(table::writes(y), bit);
-        return Step::Taken {
-            event: e.0,
-            done: Done { left, held, len },
-        };
+        let done = Done { left, held, len };
+        return Some(Taken { event: e, done });
     }
     let held = done.held;
-    let w = EventNo(newest(m, held, e));
+    let w = newest(m, held, e);
     if !may_read(m, held, e, w) {
-        return Step::Refused;
+        return None;
     }
     rf[e.0 as usize] = returned(t, &order[..len], e, w);
     order[len] = e.0;
-    Step::Taken {
-        event: e.0,
-        done: Done {
-            left,
-            held,
-            len: len + 1,
-        },
-    }
+    let len = len + 1;
+    let done = Done { left, held, len };
+    Some(Taken { event: e, done })
 }
 
 // A hart drains its oldest buffered store e.
-fn drain(m: Machine, done: Done, order: &mut [u8], rf: &[u8], e: EventNo) -> Step
+fn drain(m: Machine, done: Done, order: &mut [u8], rf: &[u8], e: EventNo) -> Option<Taken>
     requires { Made m × (e.0 < m.table.count) × Room done order.old rf.now }
     ensures { Drains m.table done order.old rf.now e.0 order.new result }
 {
@@ -184,37 +167,29 @@ fn drain(m: Machine, done: Done, order: &mut [u8], rf: &[u8], e: EventNo) -> Ste
     order[at] = e.0;
     let len = at + 1;
     if !atomic(t, &rf[..n], &order[..len], e) {
-        return Step::Refused;
+        return None;
     }
     let left = done.left;
     let held = less(done.held, one(e.0 as u32));
-    Step::Taken {
-        event: e.0,
-        done: Done { left, held, len },
-    }
+    let done = Done { left, held, len };
+    Some(Taken { event: e, done })
 }
 
 // The step b.
-fn take(m: Machine, done: Done, order: &mut [u8], rf: &mut [u8], b: u64) -> Step
+fn take(m: Machine, done: Done, order: &mut [u8], rf: &mut [u8], b: u64) -> Option<Taken>
     requires { Made m × Room done order.old rf.old }
     ensures { Steps m.table done order.old rf.old b order.new rf.new result }
 {
     if b < HARTS as u64 {
-        let e = first_of(m.table, done.left, b);
-        if e < m.table.count {
-            return issue(m, done, order, rf, EventNo(e));
-        }
-        return Step::Refused;
+        let e = first_of(m.table, done.left, b)?;
+        return issue(m, done, order, rf, e);
     }
-    let e = first_of(m.table, done.held, b - HARTS as u64);
-    if e < m.table.count {
-        return drain(m, done, order, &*rf, EventNo(e));
-    }
-    Step::Refused
+    let e = first_of(m.table, done.held, b - HARTS as u64)?;
+    drain(m, done, order, &*rf, e)
 }
 
 // The steps of a list, from the start.
-fn run(m: Machine, steps: &[u8], order: &mut [u8], rf: &mut [u8]) -> Ran
+fn run(m: Machine, steps: &[u8], order: &mut [u8], rf: &mut [u8]) -> Option<Done>
     requires { Made m × Begun m.table order.old rf.old }
     ensures { RunsAs m.table steps.now order.new rf.new result }
 {
@@ -223,19 +198,10 @@ fn run(m: Machine, steps: &[u8], order: &mut [u8], rf: &mut [u8]) -> Ran
         held: 0,
         len: 0,
     };
-    let mut i: usize = 0;
-    while i < steps.len() {
-        let b = steps[i];
-        let step = take(m, done, order, rf, b as u64);
-        match step {
-            Step::Refused => return Ran::Breaks,
-            Step::Taken { event, done: after } => {
-                done = after;
-            }
-        }
-        i += 1;
+    for &b in steps {
+        done = take(m, done, order, rf, u64::from(b))?.done;
     }
-    Ran::Reaches(done)
+    Some(done)
 }
 
 // The step b behind the list.
@@ -245,19 +211,15 @@ fn step_behind(m: Machine, steps: &[u8], b: u64) -> StepReply
 {
     let mut order = [0u8; SLOTS];
     let mut rf = [NOTHING; SLOTS];
-    let ran = run(m, steps, &mut order, &mut rf);
-    match ran {
-        Ran::Breaks => StepReply::Refused(Refusal::Line(24)),
-        Ran::Reaches(done) => {
-            let last = take(m, done, &mut order, &mut rf, b);
-            match last {
-                Step::Refused => StepReply::Refused(Refusal::Line(24)),
-                Step::Taken { event, done: after } => StepReply::Taken {
-                    event,
-                    entry: returned_from(&rf, EventNo(event)),
-                },
-            }
-        }
+    let Some(done) = run(m, steps, &mut order, &mut rf) else {
+        return StepReply::Refused(Refusal::Line(24));
+    };
+    let Some(taken) = take(m, done, &mut order, &mut rf, b) else {
+        return StepReply::Refused(Refusal::Line(24));
+    };
+    StepReply::Taken {
+        event: taken.event.0,
+        entry: returned_from(&rf, taken.event),
     }
 }
 

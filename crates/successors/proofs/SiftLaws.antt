@@ -1,15 +1,13 @@
 -- Laws for a loop that takes the bits of a mask one after the other and gathers those that pass a test.
 use Prim.Native.Nat.{ℕ, ◌^◌, ◌<◌}
 use native.Mathlib.Omega.{arith}
-use native.Mathlib.Nat.{lt_trans}
 use mathlib.Core.Path.{◌≡◌, refl, sym, ap, ap₂, ◌∙◌}
 use mathlib.Core.Bool.{Bool, true, false, ◌&&◌, ◌||◌, xor, or-false, or-true, and-false}
 use lib.Dec.{eqb}
-use lib.Pow.{pow_pos}
 use lib.Bits.{bit_or, bit_xor}
-use lib.Count.{count_trailing_zeros}
 use borrow.Author.Tests.{eqb-true}
 use Rattle.masks.specs.Bit.{bit}
+use Rattle.masks.specs.Ones.{Taken}
 use Rattle.successors.specs.CleanMasks.{slots}
 use Rattle.lists.proofs.BoolLaws.{xor-false}
 use Rattle.masks.proofs.BitLaws.{bit-or, bit-xor, bit-zero, bit-pow}
@@ -40,44 +38,45 @@ module _ {f : ℕ → Bool} {all left found : ℕ} (sifted : Sifted f all left f
       ∙ sifted.passed k
 
   -- The lowest bit that is left is taken.
-  module _ {j : ℕ} (some : left ≡ 0 → ⊥) (low : j ≡ count_trailing_zeros slots left) where
-    pub taken : (j < slots) × (bit left j ≡ true)
-    taken = let t = trailing-lowest slots left (omega arith) sifted.fits in rw low (t.0, t.1)
+  module _ {j after : ℕ} (taken : Taken left j after) where
+    pub taken-set : bit left j ≡ true
+    taken-set = rw taken.lowest (trailing-lowest slots left taken.some sifted.fits).1
 
-    module _ {b : ℕ} (power : b ≡ 2 ^ j) where
-      -- less is left
-      pub sift-less : bit_xor left b < left
-      sift-less = rw power (omega (arith, xor-pow left j taken.1, pow_pos j))
+    bit-rest : (k : ℕ) → bit after k ≡ xor (bit left k) (eqb j k)
+    bit-rest k = ap (λ (m : ℕ). bit m k) taken.rest ∙ bit-flipped left j (2 ^ j) k refl
 
-      -- it passes
-      pub sift-take : f j ≡ true → Sifted f all (bit_xor left b) (bit_or found b)
-      sift-take p = record {
-        fits = lt_trans sift-less sifted.fits;
-        passed = λ k.
-            ap₂ (λ (x y : Bool). x || (y && f k)) (bit-with found j b k power) (bit-flipped left j b k power) ∙ go k (eqb j k) refl;
-      }
-        where
-          go : (k : ℕ) (t : Bool) → eqb j k ≡ t → ((bit found k || t) || (xor (bit left k) t && f k)) ≡ (bit all k && f k)
-          go k true q =
-              let i = eqb-true j k q in
-              ap (λ (x : Bool). x || (xor (bit left k) true && f k)) (or-true (bit found k))
-              ∙ sym (or-true (bit found k))
-              ∙ ap₂ (λ (x y : Bool). bit found k || (x && y)) (sym taken.1 ∙ ap (bit left) i) (sym p ∙ ap f i)
-              ∙ sifted.passed k
-          go k false q = ap₂ (λ (x y : Bool). x || (y && f k)) (or-false (bit found k)) (xor-false (bit left k)) ∙ sifted.passed k
+    sift-fits : after < 2 ^ slots
+    sift-fits = rw taken.rest (omega (arith, sifted.fits, xor-pow left j taken-set))
 
-      -- it fails
-      pub sift-skip : f j ≡ false → Sifted f all (bit_xor left b) found
-      sift-skip p = record {
-        fits = lt_trans sift-less sifted.fits;
-        passed = λ k. ap (λ (y : Bool). bit found k || (y && f k)) (bit-flipped left j b k power) ∙ go k (eqb j k) refl;
-      }
-        where
-          none : (k : ℕ) (x : Bool) → j ≡ k → (x && f k) ≡ false
-          none k x i = ap (λ (y : Bool). x && y) (sym (ap f i) ∙ p) ∙ and-false x
+    -- it passes
+    pub sift-take : {b : ℕ} → b ≡ 2 ^ j → f j ≡ true → Sifted f all after (bit_or found b)
+    sift-take {b} power p = record {
+      fits = sift-fits;
+      passed = λ k.
+          ap₂ (λ (x y : Bool). x || (y && f k)) (bit-with found j b k power) (bit-rest k) ∙ go k (eqb j k) refl;
+    }
+      where
+        go : (k : ℕ) (t : Bool) → eqb j k ≡ t → ((bit found k || t) || (xor (bit left k) t && f k)) ≡ (bit all k && f k)
+        go k true q =
+            let i = eqb-true j k q in
+            ap (λ (x : Bool). x || (xor (bit left k) true && f k)) (or-true (bit found k))
+            ∙ sym (or-true (bit found k))
+            ∙ ap₂ (λ (x y : Bool). bit found k || (x && y)) (sym taken-set ∙ ap (bit left) i) (sym p ∙ ap f i)
+            ∙ sifted.passed k
+        go k false q = ap₂ (λ (x y : Bool). x || (y && f k)) (or-false (bit found k)) (xor-false (bit left k)) ∙ sifted.passed k
 
-          go : (k : ℕ) (t : Bool) → eqb j k ≡ t → (bit found k || (xor (bit left k) t && f k)) ≡ (bit all k && f k)
-          go k true q =
-              let i = eqb-true j k q in
-              ap (λ (y : Bool). bit found k || y) (none k (xor (bit left k) true) i ∙ sym (none k (bit left k) i)) ∙ sifted.passed k
-          go k false q = ap (λ (y : Bool). bit found k || (y && f k)) (xor-false (bit left k)) ∙ sifted.passed k
+    -- it fails
+    pub sift-skip : f j ≡ false → Sifted f all after found
+    sift-skip p = record {
+      fits = sift-fits;
+      passed = λ k. ap (λ (y : Bool). bit found k || (y && f k)) (bit-rest k) ∙ go k (eqb j k) refl;
+    }
+      where
+        none : (k : ℕ) (x : Bool) → j ≡ k → (x && f k) ≡ false
+        none k x i = ap (λ (y : Bool). x && y) (sym (ap f i) ∙ p) ∙ and-false x
+
+        go : (k : ℕ) (t : Bool) → eqb j k ≡ t → (bit found k || (xor (bit left k) t && f k)) ≡ (bit all k && f k)
+        go k true q =
+            let i = eqb-true j k q in
+            ap (λ (y : Bool). bit found k || y) (none k (xor (bit left k) true) i ∙ sym (none k (bit left k) i)) ∙ sifted.passed k
+        go k false q = ap (λ (y : Bool). bit found k || (y && f k)) (xor-false (bit left k)) ∙ sifted.passed k

@@ -5,7 +5,7 @@ ghost use Rattle.std.specs.Prelude.{◌^◌, ◌<◌, ◌≡◌, length};
 ghost use Rattle.successors.specs.CleanMasks.{slots, limit};
 ghost use Rattle.successors.specs.Waiting.{Added, Prepared};
 
-use masks::{lowest_set, one};
+use masks::{Ones, one};
 
 // The bits of a mask, and the entries of an order.
 pub const SLOTS: usize = 32;
@@ -16,11 +16,8 @@ fn add_waiting(succ: &mut [u32; SLOTS], preds: u32, k: u32)
     ensures { Added succ.old preds k succ.new }
 {
     let b = one(k);
-    let mut left = preds;
-    while left != 0 {
-        let e = lowest_set(left);
-        succ[e as usize] = succ[e as usize] | b;
-        left ^= one(e);
+    for e in Ones(preds) {
+        succ[e as usize] |= b;
     }
 }
 
@@ -30,11 +27,8 @@ pub fn successors(pred: &[u32; SLOTS], mem: u32) -> [u32; SLOTS]
     ensures { Prepared pred.now result mem }
 {
     let mut succ = [0u32; SLOTS];
-    let mut left = mem;
-    while left != 0 {
-        let k = lowest_set(left);
+    for k in Ones(mem) {
         add_waiting(&mut succ, pred[k as usize], k);
-        left ^= one(k);
     }
     succ
 }

@@ -4,8 +4,8 @@ ghost use Rattle.edition.specs.Limits.{two, test_length};
 ghost use Rattle.console.specs.Input.{Holds};
 ghost use Rattle.suite.specs.Held.{Passes};
 
-use console::Filled;
 use edition::{EditionOne, EditionTwo};
+use std::io::Result;
 
 // How many blocks the walk has moved by, and how many bytes are held then.
 #[derive(Clone, Copy)]
@@ -16,22 +16,16 @@ pub struct Step {
 
 // Reads on until a block is held, and three where an edition 2 test begins, as far as the input goes: an edition 1 test waits for
 // no more than itself.
-pub fn gather(rt: &HostRuntime, buffer: &mut [u8], held: usize) -> Filled
+pub fn gather(rt: &HostRuntime, buffer: &mut [u8], held: usize) -> Result<usize>
     requires held_in_bounds { held ≤ length buffer.old }
     requires two_in_bounds { test_length two ≤ length buffer.old }
     ensures { Holds held buffer.old buffer.new result }
 {
-    match console::fill_to(rt, buffer, held, EditionOne::BLOCK) {
-        Filled::Failed(e) => Filled::Failed(e),
-        Filled::Bytes(n) => {
-            if n < EditionOne::BLOCK {
-                Filled::Bytes(n)
-            } else if suite_walk::begins_two(&buffer[..EditionOne::BLOCK]) {
-                console::fill_to(rt, buffer, n, EditionTwo::TEST)
-            } else {
-                Filled::Bytes(n)
-            }
-        }
+    let n = console::fill_to(rt, buffer, held, EditionOne::BLOCK)?;
+    if EditionOne::BLOCK <= n && suite_walk::begins_two(&buffer[..EditionOne::BLOCK]) {
+        console::fill_to(rt, buffer, n, EditionTwo::TEST)
+    } else {
+        Ok(n)
     }
 }
 
@@ -44,13 +38,8 @@ fn move_down(buffer: &mut [u8], past: usize, held: usize) -> usize
     if held <= past {
         return 0;
     }
-    let left = held - past;
-    let mut i: usize = 0;
-    while i < left {
-        buffer[i] = buffer[past + i];
-        i += 1;
-    }
-    left
+    buffer[..held].rotate_left(past);
+    held - past
 }
 
 // Passes the first test of the bytes held.

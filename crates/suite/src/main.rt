@@ -12,10 +12,11 @@ ghost use Rattle.console.specs.Lines.{kept, AddsTo};
 ghost use Rattle.suite.specs.Held.{Turned};
 ghost use Rattle.suite.specs.SuiteLine.{visited, no_answer, answer_text, reply_text, suite_line, closing_line};
 
-use console::{Command, Filled, Line};
+use console::{Command, Line};
 use edition::EditionTwo;
 use held::Step;
 use search::Reply;
+use std::io::Result;
 use witness_walk::Ending;
 
 // How many prefixes a test's search may visit.
@@ -71,15 +72,9 @@ fn first_line(rt: &HostRuntime, k: u64, held: &[u8]) -> Line
     decided(rt, k, suite_walk::test(held, 0), &mut answer)
 }
 
-// Writes it; false if it was lost, which standard error then says.
-fn line(rt: &HostRuntime, k: u64, held: &[u8]) -> bool {
-    match first_line(rt, k, held).end() {
-        Ok(()) => true,
-        Err(e) => {
-            console::output_failed(rt, b"suite", e);
-            false
-        }
-    }
+// Writes it; an error if it was lost.
+fn line(rt: &HostRuntime, k: u64, held: &[u8]) -> Result<()> {
+    first_line(rt, k, held).end()
 }
 
 // What a turn did. Of a failure standard error was told.
@@ -97,19 +92,18 @@ fn turn(rt: &HostRuntime, k: u64, buffer: &mut [u8], held: usize) -> Effect
     ensures { Turned held buffer.old buffer.new result }
 {
     match held::gather(rt, buffer, held) {
-        Filled::Failed(e) => {
+        Err(e) => {
             console::input_failed(rt, b"suite", e);
             Effect::Failed
         }
-        Filled::Bytes(n) => {
-            if n == 0 {
-                Effect::NoMore
-            } else if line(rt, k, &buffer[..n]) {
-                Effect::Passed(held::pass(buffer, n))
-            } else {
+        Ok(0) => Effect::NoMore,
+        Ok(n) => match line(rt, k, &buffer[..n]) {
+            Err(e) => {
+                console::output_failed(rt, b"suite", e);
                 Effect::Failed
             }
-        }
+            Ok(()) => Effect::Passed(held::pass(buffer, n)),
+        },
     }
 }
 
@@ -132,19 +126,17 @@ fn turns(rt: &HostRuntime, buffer: &mut [u8])
 {
     let mut held: usize = 0;
     let mut block: u64 = 0;
-    let mut tests: u64 = 0;
-    while tests < MOST_TESTS {
+    for tests in 0..MOST_TESTS {
         match turn(rt, block, buffer, held) {
             Effect::Passed(step) => {
                 held = step.held;
                 block += step.blocks as u64;
-                tests += 1;
             }
-            Effect::NoMore => break,
+            Effect::NoMore => return last(rt, tests),
             Effect::Failed => return,
         }
     }
-    last(rt, tests);
+    last(rt, MOST_TESTS);
 }
 
 fn suite(rt: &HostRuntime) {

@@ -1,12 +1,13 @@
 -- Block k of a suite: empty exactly where the suite has no block k.
-use Prim.Native.Nat.{ℕ, suc, ◌+◌, ◌-◌, ◌*◌, ◌≤◌}
-use mathlib.Core.Path.{◌≡◌, refl, sym, ap, ◌∙◌}
+use Prim.Native.Nat.{ℕ, suc, ◌+◌, ◌-◌, ◌*◌, ◌≤◌, min}
+use mathlib.Core.Path.{◌≡◌, refl, ap, ◌∙◌}
 use mathlib.Core.Bool.{false}
 use mathlib.Core.Logic.{◌↔◌}
 use mathlib.Core.List.{List, [], ◌∷◌, cons-ne-nil}
 use native.Mathlib.Omega.{arith}
 use lib.ListN.{length, take, drop, length-take, length-drop, drop_of_length-le}
-use lib.Seq.{take_all, take-nil}
+use lib.Seq.{take-nil}
+use Rattle.std.proofs.lemmas.List.{take_min}
 use borrow.Author.Tests.{ltb-false, le-ltb}
 use Rattle.edition.specs.Limits.{block_length}
 use Rattle.suite_part.specs.Part.{block_of, block_count, in_suite}
@@ -16,21 +17,15 @@ pub part_none : (s : List ℕ) (k : ℕ) → length s ≤ block_length * k → b
 unfolding block_of
 part_none s k h = ap (take block_length) (drop_of_length-le s h) ∙ take-nil block_length
 
--- a last part block is what is left
-pub part-last : (s : List ℕ) (k : ℕ) → length s - block_length * k ≤ block_length
-    → take (length s - block_length * k) (drop (block_length * k) s) ≡ block_of s k
+-- any other block begins with byte 512 k, and goes on for a block or to the suite's end
+pub part : (s : List ℕ) (k to : ℕ) → to ≡ min (length s) (block_length * k + block_length)
+    → take (to - block_length * k) (drop (block_length * k) s) ≡ block_of s k
 unfolding block_of
-part-last s k h =
+part s k to e =
     let l : List ℕ = drop (block_length * k) s in
     let n = length-drop (block_length * k) s in
-    take_all (length s - block_length * k) l (omega (arith, n)) ∙ sym (take_all block_length l (omega (arith, n)))
-
--- any other block is whole: the bytes from its start to its end
-pub part-whole : (s : List ℕ) (k : ℕ) → take (block_length * k + block_length - block_length * k) (drop (block_length * k) s) ≡ block_of s k
-unfolding block_of
-part-whole s k =
-    let e : block_length * k + block_length - block_length * k ≡ block_length = omega arith in
-    ap (λ (n : ℕ). take n (drop (block_length * k) s)) e
+    let q : to - block_length * k ≡ min block_length (length l) = omega (arith, n, e) in
+    ap (λ (m : ℕ). take m l) q ∙ take_min block_length l
 
 -- it has all the bytes of a block
 pub part_length : (s : List ℕ) (k : ℕ) (p : List ℕ) → block_length * k + block_length ≤ length s → p ≡ block_of s k → block_length ≤ length p

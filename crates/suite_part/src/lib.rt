@@ -10,12 +10,7 @@ use edition::EditionOne;
 pub fn blocks(suite: &[u8]) -> usize
     ensures { result ≡ block_count suite.now }
 {
-    let whole = suite.len() / EditionOne::BLOCK;
-    if suite.len() % EditionOne::BLOCK == 0 {
-        whole
-    } else {
-        whole + 1
-    }
+    suite.len().div_ceil(EditionOne::BLOCK)
 }
 
 // Block `k`: empty where the suite has no block `k`. The test comes first, so that the product can't wrap.
@@ -26,8 +21,6 @@ pub fn block(suite: &[u8], k: usize) -> &[u8]
         return &suite[..0];
     }
     let from = EditionOne::BLOCK * k;
-    if suite.len() - from < EditionOne::BLOCK {
-        return &suite[from..];
-    }
-    &suite[from..from + EditionOne::BLOCK]
+    let to = suite.len().min(from + EditionOne::BLOCK);
+    &suite[from..to]
 }

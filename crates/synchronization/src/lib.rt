@@ -64,15 +64,13 @@ pub fn rule4(t: Table, a: EventNo, b: EventNo) -> bool
 {
     let x = t.events[a.0 as usize];
     let y = t.events[b.0 as usize];
-    let mut m: u8 = 0;
-    while m < t.count {
+    for m in 0..t.count {
         let f = t.events[m as usize];
         if table::between(a, x, EventNo(m), f, b, y)
             & (fence_orders(x, f, y) | tso_orders(x, f, y))
         {
             return true;
         }
-        m += 1;
     }
     false
 }

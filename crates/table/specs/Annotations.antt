@@ -1,5 +1,5 @@
 -- "The block": flags and dependency masks.
-use Rattle.std.specs.Prelude.{ℕ, ◌+◌, Bool, cond, ◌&&◌, ◌||◌, eqb}
+use Rattle.std.specs.Prelude.{ℕ, ◌+◌, Bool, cond, ◌||◌, eqb}
 use Rattle.std.specs.Int.Bits.{bit_or}
 use Rattle.masks.specs.Bit.{bit}
 use Rattle.table.specs.declared.Event.{Event}

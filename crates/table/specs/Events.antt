@@ -1,5 +1,5 @@
 -- "The block": what an event of a table is, and program order.
-use Rattle.std.specs.Prelude.{ℕ, Bool, ◌&&◌, ◌||◌, not, List, [], length, get_or, replicate, eqb, ltb}
+use Rattle.std.specs.Prelude.{ℕ, Bool, ◌&&◌, ◌||◌, not, List, length, get_or, eqb, ltb}
 use Rattle.lists.specs.Below.{below, some}
 use Rattle.lists.specs.Lists.{keep}
 use Rattle.masks.specs.MaskOf.{mask_of}

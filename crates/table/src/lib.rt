@@ -159,15 +159,13 @@ fn some_reserves(t: Table, a: EventNo, b: EventNo) -> bool
     requires { (a.0 < capacity) × (b.0 < capacity) × (t.count ≤ capacity) }
     ensures { result ≡ some t.count (reserves t a.0 b.0) }
 {
-    let x = t.events[a.0 as usize];
-    let y = t.events[b.0 as usize];
-    let mut m: u8 = 0;
-    while m < t.count {
-        let z = t.events[m as usize];
+    let x = t.events[usize::from(a.0)];
+    let y = t.events[usize::from(b.0)];
+    for m in 0..t.count {
+        let z = t.events[usize::from(m)];
         if between(a, x, EventNo(m), z, b, y) & ((z.kind == Kind::LR) | (z.kind == Kind::SC)) {
             return true;
         }
-        m += 1;
     }
     false
 }
@@ -177,13 +175,10 @@ pub fn paired(t: Table, a: EventNo, b: EventNo) -> bool
     requires { (a.0 < capacity) × (b.0 < capacity) × (t.count ≤ capacity) }
     ensures { result ≡ paired t a.0 b.0 }
 {
-    let x = t.events[a.0 as usize];
-    let y = t.events[b.0 as usize];
-    if program_order(a, x, b, y) & (x.kind == Kind::LR) & (y.kind == Kind::SC) {
-        !some_reserves(t, a, b)
-    } else {
-        false
-    }
+    let x = t.events[usize::from(a.0)];
+    let y = t.events[usize::from(b.0)];
+    program_order(a, x, b, y) & (x.kind == Kind::LR) & (y.kind == Kind::SC)
+        && !some_reserves(t, a, b)
 }
 
 // The mask of the memory events.
@@ -192,10 +187,8 @@ pub fn memory_mask(t: Table) -> u32
     ensures { result ≡ memory_mask t }
 {
     let mut mask: u32 = 0;
-    let mut e: u8 = 0;
-    while e < t.count {
-        mask = mask | one_if(memory(t.events[e as usize]), e);
-        e += 1;
+    for e in 0..t.count {
+        mask |= one_if(memory(t.events[usize::from(e)]), e);
     }
     mask
 }

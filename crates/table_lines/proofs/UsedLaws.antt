@@ -1,5 +1,5 @@
 -- The locations that memory events touch, and line 21.
-use Prim.Native.Nat.{ℕ, ◌+◌, ◌^◌, ◌≤◌, ◌<◌}
+use Prim.Native.Nat.{ℕ, ◌+◌, ◌^◌, ◌<◌}
 use mathlib.Core.Path.{◌≡◌, refl, sym, ap, ap₂, ◌∙◌}
 use mathlib.Core.Bool.{Bool, true, false, cond, not, ◌&&◌, ◌||◌, and-false}
 use mathlib.Core.List.{List, [], ◌∷◌, ◌++◌}
@@ -7,7 +7,7 @@ use mathlib.Core.Logic.{◌≢◌}
 use native.Mathlib.Omega.{arith}
 use lib.Bits.{bit_or}
 use lib.Dec.{eqb}
-use Rattle.lists.specs.Below.{first_from, some, every}
+use Rattle.lists.specs.Below.{first_from, some}
 use Rattle.lists.proofs.SomeLaws.{some-none, some_more, none-at, every-at}
 use Rattle.edition.specs.Limits.{max_locations}
 use Rattle.masks.specs.Bit.{bit}

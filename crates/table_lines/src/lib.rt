@@ -1,7 +1,7 @@
 // Lines 5 to 11 and 21 of the table of refusals, each a test of the table, and the first that holds, of a block and of a text.
 #![tactic(auto)]
 
-ghost use Rattle.std.specs.Prelude.{◌≤◌, ◌≡◌, false, [], ◌∷◌, ◌++◌};
+ghost use Rattle.std.specs.Prelude.{◌≤◌, ◌<◌, ◌≡◌, false, [], ◌∷◌, ◌++◌, MatchOption};
 ghost use Rattle.lists.specs.Below.{lowest, below};
 ghost use Rattle.lists.specs.Lists.{keep};
 ghost use Rattle.masks.specs.Bit.{bit};
@@ -38,13 +38,11 @@ fn mark_records(t: Table) -> Marks
     let mut fields: u32 = 0;
     let mut annotations: u32 = 0;
     let mut memory: u32 = 0;
-    let mut k: u8 = 0;
-    while k < t.count {
-        let e = t.events[k as usize];
-        fields = fields | one_if(record_lines::line7(t.harts, t.locations, e), k);
-        annotations = annotations | one_if(record_lines::line8(e), k);
-        memory = memory | one_if(table::memory(e), k);
-        k += 1;
+    for k in 0..t.count {
+        let e = t.events[usize::from(k)];
+        fields |= one_if(record_lines::line7(t.harts, t.locations, e), k);
+        annotations |= one_if(record_lines::line8(e), k);
+        memory |= one_if(table::memory(e), k);
     }
     Marks {
         fields,
@@ -54,41 +52,35 @@ fn mark_records(t: Table) -> Marks
 }
 
 // Most events depend on none, and line 9 holds of none of these: no call, which would copy the table.
-fn lowest9(t: Table) -> EventNo
+fn lowest9(t: Table) -> Option<EventNo>
     requires { t.count ≤ capacity }
-    ensures { result.0 ≡ lowest t.count (line9 t) }
+    ensures { MatchOption result (lowest t.count (line9 t) ≡ t.count) (λ k. (k.0 < t.count) × (k.0 ≡ lowest t.count (line9 t))) }
 {
-    let mut k: u8 = 0;
-    while k < t.count {
-        if dependency_lines::depends_on_none(t.events[k as usize]) {
-            k += 1;
+    for k in 0..t.count {
+        if dependency_lines::depends_on_none(t.events[usize::from(k)]) {
             continue;
         }
         if dependency_lines::line9(t, EventNo(k)) {
-            return EventNo(k);
+            return Some(EventNo(k));
         }
-        k += 1;
     }
-    EventNo(t.count)
+    None
 }
 
 // Line 10 holds of SCs only.
-fn lowest10(t: Table) -> EventNo
+fn lowest10(t: Table) -> Option<EventNo>
     requires { t.count ≤ capacity }
-    ensures { result.0 ≡ lowest t.count (line10 t) }
+    ensures { MatchOption result (lowest t.count (line10 t) ≡ t.count) (λ k. (k.0 < t.count) × (k.0 ≡ lowest t.count (line10 t))) }
 {
-    let mut k: u8 = 0;
-    while k < t.count {
-        if t.events[k as usize].kind != Kind::SC {
-            k += 1;
+    for k in 0..t.count {
+        if t.events[usize::from(k)].kind != Kind::SC {
             continue;
         }
         if dependency_lines::line10(t, EventNo(k)) {
-            return EventNo(k);
+            return Some(EventNo(k));
         }
-        k += 1;
     }
-    EventNo(t.count)
+    None
 }
 
 // The first of lines 9 to 11 that holds, of a table with these memory events.
@@ -96,13 +88,11 @@ fn refuse_related(t: Table, memory: u32) -> Refusal
     requires { (t.count ≤ capacity) × (memory ≡ memory_mask t) }
     ensures { refusal_of result ≡ first_line t.count (record_of 9 (line9 t) ∷ record_of 10 (line10 t) ∷ whole 11 (line11 t) ∷ []) }
 {
-    let k9 = lowest9(t);
-    if k9.0 < t.count {
-        return Refusal::Record(9, k9);
+    if let Some(k) = lowest9(t) {
+        return Refusal::Record(9, k);
     }
-    let k10 = lowest10(t);
-    if k10.0 < t.count {
-        return Refusal::Record(10, k10);
+    if let Some(k) = lowest10(t) {
+        return Refusal::Record(10, k);
     }
     if memory == 0 {
         return Refusal::Line(11);
@@ -137,12 +127,9 @@ fn touched(t: Table) -> u32
     ensures { Touches t t.count result }
 {
     let mut mask: u32 = 0;
-    let mut k: u8 = 0;
-    while k < t.count {
-        let e = t.events[k as usize];
-        let memory = table::memory(e);
-        mask = mask | one_if(memory, e.location.0);
-        k += 1;
+    for e in &t.events[..usize::from(t.count)] {
+        let memory = table::memory(*e);
+        mask |= one_if(memory, e.location.0);
     }
     mask
 }
@@ -153,12 +140,10 @@ pub fn line21(t: Table, named: u32) -> bool
     ensures { result ≡ line21 (bit named) t }
 {
     let used = touched(t) | named;
-    let mut x: u8 = 0;
-    while x < t.locations {
-        if !has(used, x as u32) {
+    for x in 0..t.locations {
+        if !has(used, u32::from(x)) {
             return true;
         }
-        x += 1;
     }
     false
 }
@@ -173,7 +158,7 @@ fn refuse_events(t: Table, named: u8) -> Refusal
         Refusal::Line(n) => Refusal::Line(n),
         Refusal::Record(n, k) => Refusal::Record(n, k),
         Refusal::None => {
-            if line21(t, named as u32) {
+            if line21(t, u32::from(named)) {
                 return Refusal::Line(21);
             }
             Refusal::None
@@ -209,9 +194,11 @@ const NO_KIND: u8 = 0;
 fn as_block(harts: u8, locations: u8, e: Event) -> Event
     ensures { result ≡ as_block harts locations e }
 {
-    let mut record = e;
-    record.operation = Operation::NONE;
-    record.operand = 0;
+    let mut record = Event {
+        operation: Operation::NONE,
+        operand: 0,
+        ..e
+    };
     if record_lines::text_line7(harts, locations, e) {
         record.kind = NO_KIND;
     }
@@ -223,23 +210,11 @@ fn table_as_block(t: Table) -> Table
     ensures { AsBlock t result }
 {
     let mut events = t.events;
-    let mut k: u8 = 0;
-    while k < t.count {
-        events[k as usize] = as_block(t.harts, t.locations, t.events[k as usize]);
-        k += 1;
+    for k in 0..t.count {
+        let slot = usize::from(k);
+        events[slot] = as_block(t.harts, t.locations, t.events[slot]);
     }
-    let initial = t.initial;
-    let finals = t.finals;
-    Table {
-        harts: t.harts,
-        locations: t.locations,
-        count: t.count,
-        stated: t.stated,
-        model: t.model,
-        initial,
-        events,
-        finals,
-    }
+    Table { events, ..t }
 }
 
 // A mask of all locations.
@@ -250,7 +225,7 @@ const EVERY_LOCATION: u8 = 255;
 pub fn refuse_text(t: Table) -> Refusal
     ensures { refusal_of result ≡ first_line t.count (table_lines_by (text_line7 t) (most_events two) false t) }
 {
-    if EditionTwo::EVENTS < t.count as usize {
+    if EditionTwo::EVENTS < usize::from(t.count) {
         return Refusal::Line(5);
     }
     refuse(table_as_block(t), EVERY_LOCATION, EditionTwo::EVENTS, false)

@@ -2,7 +2,8 @@
 // a block of the whole suite.
 #![tactic(auto)]
 
-use console::{Input, Line};
+use calls::Calls;
+use console::Line;
 use edition::EditionOne;
 
 // A call on the suite's first bytes, and one on a block.
@@ -15,24 +16,15 @@ const MOST_BLOCKS: usize = 8;
 
 const MOST_BYTES: usize = MOST_BLOCKS * EditionOne::BLOCK;
 
-// What a part of the stream did.
-#[derive(Clone, Copy)]
-enum Effect {
-    End,
-    Lent(usize),
-    Called,
-}
-
 // The test at block k: that number, its length, the next one's first block, and its refusal, 0 for none.
 fn test(line: Line, suite: &[u8], k: usize) -> Line {
     let bytes = suite_walk::test(suite, k);
     let next = suite_walk::next(suite, k);
-    let reading = block::read(bytes);
-    let refusal = reading.refusal;
+    let refusal = block::read(bytes).refusal;
     line.number(k as u64)
         .spaced(bytes.len() as u64)
         .spaced(next as u64)
-        .spaced(console::wide(words::number(refusal)))
+        .spaced(u64::from(words::number(refusal)))
         .text(b" / ")
 }
 
@@ -51,7 +43,7 @@ fn tests(line: Line, suite: &[u8]) -> Line {
 }
 
 fn walk(rt: &HostRuntime, n: u64, suite: &[u8]) {
-    let length = console::word(rt) as usize;
+    let length = usize::from(console::word(rt));
     let _ = tests(calls::begin(rt, n), console::front(suite, length)).end();
 }
 
@@ -64,45 +56,21 @@ fn ask(rt: &HostRuntime, n: u64, suite: &[u8]) {
         .end();
 }
 
-fn call(rt: &HostRuntime, tag: u8, n: u64, buffer: &mut [u8], size: usize) -> Effect {
-    if tag == calls::LEND {
-        return Effect::Lent(calls::frame(rt, buffer));
-    }
-    let suite = console::front(buffer, size);
-    if tag == WALK {
-        walk(rt, n, suite);
-        return Effect::Called;
-    }
-    if tag == BLOCK {
-        ask(rt, n, suite);
-        return Effect::Called;
-    }
-    Effect::End
-}
+#[derive(Drop)]
+struct Suites;
 
-fn turn(rt: &HostRuntime, n: u64, buffer: &mut [u8], size: usize) -> Effect {
-    match console::byte(rt) {
-        Input::Byte(tag) => call(rt, tag, n, buffer, size),
-        Input::End => Effect::End,
-    }
-}
-
-// The bound makes the loop end for the proof: nothing says that input does.
-fn turns(rt: &HostRuntime, buffer: &mut [u8]) {
-    let mut size: usize = 0;
-    let mut n: u64 = 0;
-    let mut count: u64 = 0;
-    while count < u64::MAX {
-        match turn(rt, n, buffer, size) {
-            Effect::End => return,
-            Effect::Lent(length) => size = length,
-            Effect::Called => n += 1,
+impl Calls for Suites {
+    fn call(&mut self, rt: &HostRuntime, tag: u8, k: u64, suite: &[u8]) -> bool {
+        match tag {
+            WALK => walk(rt, k, suite),
+            BLOCK => ask(rt, k, suite),
+            _ => return false,
         }
-        count += 1;
+        true
     }
 }
 
 fn main(rt: HostRuntime) {
     let mut buffer = [0u8; MOST_BYTES];
-    turns(&rt, &mut buffer);
+    calls::answer_all(&rt, &mut buffer, &mut Suites);
 }

@@ -3,7 +3,7 @@ use Prim.Native.Nat.{ℕ, ◌≤◌, ◌<◌}
 use mathlib.Core.Path.{◌≡◌, refl, sym, ap, subst, ◌∙◌}
 use mathlib.Core.Bool.{Bool, true, false, ◌||◌}
 use mathlib.Core.Logic.{◌≢◌}
-use mathlib.Core.List.{List, [], ◌∷◌}
+use mathlib.Core.List.{List, []}
 use native.Mathlib.Omega.{arith}
 use lib.Dec.{eqb, ltb}
 use borrow.Author.Tests.{lt-ltb}
@@ -13,7 +13,7 @@ use Rattle.masks.specs.Bit.{bit}
 use Rattle.edition.specs.Limits.{two, most_events, max_harts, max_locations}
 use Rattle.table.specs.declared.Table.{Table}
 use Rattle.table.specs.Events.{capacity}
-use Rattle.refusals.specs.Lines.{Refused, accepted, by_line, Line, whole, first_line, unless}
+use Rattle.refusals.specs.Lines.{Refused, accepted, by_line, Line, first_line, unless}
 use Rattle.refusals.specs.TableLines.{outside, states_missing, unknown_model, header_wrong, line5, line21, text_line7, table_lines_by}
 use Rattle.refusals.specs.declared.Refusal.TheVariants.{None}
 use Rattle.refusals.proofs.InRange.{text-asks-range, places-in-range}

@@ -9,7 +9,6 @@ use lib.ListN.{length, get_or, take, drop}
 use lib.Dec.{eqb, ltb}
 use borrow.Author.Tests.{eq-eqb, ne_eqb, ltb-true, ltb-false}
 use Rattle.lists.specs.Lists.{any}
-use Rattle.lists.specs.Below.{some}
 use Rattle.lists.proofs.SomeLaws.{some_same}
 use Rattle.masks.specs.Bit.{bit}
 use Rattle.masks.proofs.BitLaws.{bit-or, bit-zero}

@@ -65,14 +65,14 @@ module _ (s : List ℕ) where
   abbrev lines : Read (List (List ℕ))
   lines = event_lines (suc (length s)) s
 
-  pub lines-breach : (r : List ℕ) → lines ≡ breach 19 r → document s ≡ breach 19 r
+  pub lines-breach : (n : ℕ) (r : List ℕ) → lines ≡ breach n r → document s ≡ breach n r
   unfolding document_in
-  lines-breach r e = rw e
+  lines-breach n r e = rw e
 
   module _ (es : List (List ℕ)) (t : List ℕ) (e : lines ≡ got es t) where
-    pub values-breach : (r : List ℕ) → values (suc (length t)) t ≡ breach 19 r → document s ≡ breach 19 r
+    pub values-breach : (n : ℕ) (r : List ℕ) → values (suc (length t)) t ≡ breach n r → document s ≡ breach n r
     unfolding document_in
-    values-breach r f = rw (e, f)
+    values-breach n r f = rw (e, f)
 
     module _ (vs u : List ℕ) (f : values (suc (length t)) t ≡ got vs u) where
       at-outcome : document s ≡ and_then (outcome_in u) (λ c v. got (documented es vs c) v)

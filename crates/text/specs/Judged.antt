@@ -1,5 +1,5 @@
 -- What the answers of the readers and of the tests say of the definitions.
-use Rattle.std.specs.Prelude.{ℕ, ◌/◌, ◌%◌, ◌≤◌, ◌<◌, max, ◌≡◌, Bool, false, cond, not, ◌&&◌, ◌||◌, List, [], ◌∷◌, ◌++◌, map, length, take, drop, replicate, eqb, leb}
+use Rattle.std.specs.Prelude.{ℕ, ◌/◌, ◌%◌, ◌≤◌, ◌<◌, max, ◌≡◌, Bool, false, cond, not, ◌&&◌, ◌||◌, List, [], ◌∷◌, ◌++◌, Result, Ok, Err, map, length, get_or, take, drop, replicate, eqb, leb}
 use Rattle.lists.specs.Lists.{any}
 use Rattle.masks.specs.Bit.{bit}
 use Rattle.edition.specs.Limits.{two, most_events, max_locations}
@@ -12,10 +12,13 @@ use Rattle.refusals.specs.TableLines.{text_line7, line21, table_lines_by}
 use Rattle.block.specs.Reading.{no_table}
 use Rattle.text_format.specs.Bytes.{newline}
 use Rattle.text_format.specs.Condition.{Condition, max_levels}
-use Rattle.text_format.specs.Reading.{Read, got, breach, and_then, word, condition}
+use Rattle.text_format.specs.Reading.{Read, got, breach, and_then, word, condition, document}
+use Rattle.lists.specs.Filled.{up_to}
 use Rattle.condition_reader.specs.Words.{returns_node, ends_node, code, max_words}
-use Rattle.condition_reader.specs.declared.Step.{Step}
-use Rattle.condition_reader.specs.declared.Step.TheVariants.{At, Breach}
+use Rattle.condition_reader.specs.Steps.{refusal_in, place_in, Broke}
+use Rattle.condition_reader.specs.declared.Breach.{Breach}
+use Rattle.text_lines.specs.Lines.{event_of}
+use Rattle.text.specs.declared.Parts.{Parts}
 use Rattle.text.specs.declared.TextReading.{TextReading}
 use Rattle.text.specs.Texts.{covering}
 use Rattle.text.specs.TextRefusals.{text_refusal_of}
@@ -34,16 +37,25 @@ unfoldable pub outcome_in : List ℕ → Read Condition
 outcome_in s = and_then (condition max_levels s) closing
 
 -- from a place on the text is closed; or the first breach
-abbrev pub ClosingSays : (s : List ℕ) (at len : ℕ) → Step → Type 0
-ClosingSays s at len (At next n) = ((c : Condition) → closing c (drop at s) ≡ got c []) × (n ≡ len)
-ClosingSays s at len (Breach number place) =
-    ((c : Condition) → closing c (drop at s) ≡ breach number (drop place s)) × (place ≤ length s)
+abbrev pub ClosingSays : {A : Type 0} → (s : List ℕ) (at : ℕ) → Result A Breach → Type 0
+ClosingSays s at (Ok a) = (c : Condition) → closing c (drop at s) ≡ got c []
+ClosingSays s at (Err b) = ((c : Condition) → closing c (drop at s) ≡ breach (refusal_in b) (drop (place_in b) s)) × (place_in b ≤ length s)
 
 -- the words of the condition that ends the text; or the first breach
-abbrev pub OutcomeSays : (s : List ℕ) (from : ℕ) (words : List ℕ) → Step → Type 0
-OutcomeSays s from words (At at len) =
+abbrev pub OutcomeSays : (s : List ℕ) (from : ℕ) (words : List ℕ) → Result ℕ Breach → Type 0
+OutcomeSays s from words (Ok len) =
     (c : Condition) × (outcome_in (drop from s) ≡ got c []) × (take len words ≡ code c) × (len ≤ max_words)
-OutcomeSays s from words (Breach number place) = (outcome_in (drop from s) ≡ breach number (drop place s)) × (place ≤ length s)
+OutcomeSays s from words (Err b) = Broke s (outcome_in (drop from s)) b
+
+-- the parts of a text, of which the first events and values are kept; or the first breach
+abbrev pub PartsSay : (s words : List ℕ) → Result Parts Breach → Type 0
+PartsSay s words (Ok p) =
+    (es : List (List ℕ)) × (vs : List ℕ) × (c : Condition)
+    × (document s ≡ got (record { events = es; initial = vs; outcome = c }) [])
+    × (p.lines.count ≡ length es) × (p.lines.events ≡ up_to capacity (λ k. event_of (get_or es k [])))
+    × (p.values.count ≡ length vs) × (p.values.initial ≡ up_to max_locations (λ x. get_or vs x 0))
+    × (take p.len words ≡ code c) × (p.len ≤ max_words)
+PartsSay s words (Err b) = Broke s (document s) b
 
 -- the table of so many events and so many initial values, which stand in its slots
 unfoldable pub table_from : (events : List Event) (count : ℕ) (initial : List ℕ) (given : ℕ) → Table

@@ -6,18 +6,20 @@ ghost use Rattle.lists.specs.Lists.{any};
 ghost use Rattle.table.specs.Events.{capacity};
 ghost use Rattle.block.specs.Reading.{no_table};
 ghost use Rattle.text_format.specs.Document.{max_text};
+ghost use Rattle.condition_reader.specs.Steps.{refusal_in, place_in};
 ghost use Rattle.condition_reader.specs.Words.{max_words};
 ghost use Rattle.text.specs.Texts.{covering, text_refusal, text_table};
 ghost use Rattle.text.specs.TextRefusals.{text_refusal_of};
-ghost use Rattle.text.specs.Judged.{ClosingSays, OutcomeSays, table_from, unknown_by, word_unknown, Names, Judged};
+ghost use Rattle.text.specs.declared.TextRefusal.TheVariants.{At};
+ghost use Rattle.text.specs.Judged.{ClosingSays, OutcomeSays, PartsSay, table_from, unknown_by, word_unknown, Names, Judged};
 ghost use Rattle.text.specs.Accepted.{IfAccepted};
 
-use condition_reader::{Found, Step};
+use condition_reader::{Breach, Step};
 use edition::{EditionOne, EditionTwo};
 use masks::one_if;
 use refusals::Refusal;
 use table::{CAPACITY, Event, LOCATIONS, Model, Table};
-use text_lines::Rows;
+use text_lines::{EventLines, InitialValues};
 
 // The longest text.
 const MAX_TEXT: usize = 2048;
@@ -35,12 +37,31 @@ pub enum TextRefusal {
     Table(Refusal),
 }
 
+impl From<Breach> for TextRefusal {
+    ghost from_gives = { λ b r. r ≡ At (refusal_in b) (place_in b) };
+
+    fn from(breach: Breach) -> TextRefusal {
+        match breach {
+            Breach::Illegal(place) => TextRefusal::At { number: 19, place },
+            Breach::TooDeep(place) => TextRefusal::At { number: 20, place },
+        }
+    }
+}
+
 // The condition is the first `len` words of the buffer.
 #[derive(Clone, Copy)]
 pub struct TextReading {
     pub refusal: TextRefusal,
     pub table: Table,
     pub len: usize,
+}
+
+// The parts of a legal text: its condition is the first `len` words of the buffer.
+#[derive(Clone, Copy)]
+struct Parts {
+    lines: EventLines,
+    values: InitialValues,
+    len: usize,
 }
 
 // The least numbers of harts and of locations that cover some events.
@@ -61,47 +82,44 @@ fn refused(refusal: TextRefusal) -> TextReading
 }
 
 // The newline behind the condition, and the end of the text.
-fn read_end(text: &[u8], at: usize, len: usize) -> Step
+fn read_end(text: &[u8], at: usize) -> Result<(), Breach>
     requires { at ≤ length text.now }
-    ensures { ClosingSays text.now at len result }
+    ensures { ClosingSays text.now at result }
 {
-    let end = condition_reader::read_word(text, at, b"\n");
-    match end {
-        Found::Breach(place) => Step::Breach { number: 19, place },
-        Found::At(next) => {
-            if next < text.len() {
-                return Step::Breach {
-                    number: 19,
-                    place: next,
-                };
-            }
-            Step::At { at: next, len }
-        }
+    let next = condition_reader::read_word(text, at, b"\n")?;
+    if next < text.len() {
+        return Err(Breach::Illegal(next));
     }
+    Ok(())
 }
 
-// The condition from a place on, which ends the text.
-fn read_outcome(text: &[u8], from: usize, words: &mut [u32]) -> Step
+// The number of words of the condition from a place on, which ends the text.
+fn read_outcome(text: &[u8], from: usize, words: &mut [u32]) -> Result<usize, Breach>
     requires { (from ≤ length text.now) × (length text.now ≤ max_text) × (max_words ≤ length words.old) }
     ensures { OutcomeSays text.now from words.new result }
 {
-    let start = Step::At { at: from, len: 0 };
-    let step = condition_reader::read_condition(
-        text,
-        start,
-        LEVELS,
-        &mut words[..condition_reader::WORDS],
-    );
-    match step {
-        Step::Breach { number, place } => Step::Breach { number, place },
-        Step::At { at, len } => read_end(text, at, len),
-    }
+    let start = Step { at: from, len: 0 };
+    let kept = &mut words[..condition_reader::WORDS];
+    let step = condition_reader::read_condition(text, start, LEVELS, kept)?;
+    read_end(text, step.at)?;
+    Ok(step.len)
+}
+
+// The parts of a text, or its first breach.
+fn read_parts(text: &[u8], words: &mut [u32]) -> Result<Parts, Breach>
+    requires { (length text.now ≤ max_text) × (max_words ≤ length words.old) }
+    ensures { PartsSay text.now words.new result }
+{
+    let lines = text_lines::read_events(text)?;
+    let values = text_lines::read_values(text, lines.next)?;
+    let len = read_outcome(text, values.next, words)?;
+    Ok(Parts { lines, values, len })
 }
 
 fn larger(a: usize, b: usize) -> usize
     ensures { result ≡ max a b }
 {
-    if a < b { b } else { a }
+    a.max(b)
 }
 
 // What covers the first `count` events.
@@ -112,12 +130,10 @@ fn least(events: [Event; CAPACITY], count: usize) -> Covered
 {
     let mut harts: usize = 0;
     let mut locations: usize = 0;
-    let mut k: usize = 0;
-    while k < count {
+    for k in 0..count {
         let e = events[k];
         harts = larger(harts, e.hart as usize + 1);
         locations = larger(locations, e.location.0 as usize + 1);
-        k += 1;
     }
     Covered { harts, locations }
 }
@@ -139,14 +155,12 @@ fn names_unknown(t: Table, words: &[u32], len: usize) -> bool
     requires { (len ≤ length words.now) × (t.count ≤ capacity) }
     ensures { result ≡ any (word_unknown t) (take len words.now) }
 {
-    let mut i: usize = 0;
-    while i < len {
+    for i in 0..len {
         let word = words[i];
         let number = ((word / BYTES) % BYTES) as usize;
         if word_unknown(t.count, t.locations, t.events[number % CAPACITY], word) {
             return true;
         }
-        i += 1;
     }
     false
 }
@@ -157,13 +171,11 @@ fn named_locations(words: &[u32], len: usize) -> u32
     ensures { Names (take len words.now) result }
 {
     let mut mask: u32 = 0;
-    let mut i: usize = 0;
-    while i < len {
+    for i in 0..len {
         let word = words[i];
         let number = ((word / BYTES) % BYTES) as usize;
         let names = (word % BYTES == condition_reader::ENDS) & (number < CAPACITY);
-        mask = mask | one_if(names, (number % CAPACITY) as u8);
-        i += 1;
+        mask |= one_if(names, (number % CAPACITY) as u8);
     }
     mask
 }
@@ -236,33 +248,19 @@ pub fn read(text: &[u8], words: &mut [u32]) -> TextReading
     if MAX_TEXT < text.len() {
         return refused(TextRefusal::Table(Refusal::Line(1)));
     }
-    let lines = text_lines::read_events(text);
-    let rows = lines.rows;
-    match rows {
-        Rows::Breach(place) => refused(TextRefusal::At { number: 19, place }),
-        Rows::At { at, count } => {
-            let values = text_lines::read_values(text, at);
-            let row = values.rows;
-            match row {
-                Rows::Breach(place) => refused(TextRefusal::At { number: 19, place }),
-                Rows::At {
-                    at: from,
-                    count: given,
-                } => {
-                    let outcome = read_outcome(text, from, words);
-                    match outcome {
-                        Step::Breach { number, place } => refused(TextRefusal::At {
-                            number,
-                            place,
-                        }),
-                        Step::At { at: _, len } => {
-                            let events = lines.events;
-                            let initial = values.initial;
-                            tabulate(events, count, initial, given, &*words, len)
-                        }
-                    }
-                }
-            }
+    match read_parts(text, words) {
+        Ok(parts) => {
+            let lines = parts.lines;
+            let values = parts.values;
+            tabulate(
+                lines.events,
+                lines.count,
+                values.initial,
+                values.count,
+                &*words,
+                parts.len,
+            )
         }
+        Err(breach) => refused(TextRefusal::from(breach)),
     }
 }

@@ -16,7 +16,10 @@ use Rattle.text_format.specs.Document.{field_bounds, within}
 use Rattle.text_format.specs.Reading.{Read, got, breach, and_then, word, number, line}
 use Rattle.text_format.proofs.LineLaws.{bounds-fair, line-sound}
 use Rattle.condition_reader.proofs.NumberLaws.{here, none}
-use Rattle.condition_reader.specs.declared.Number.TheVariants.{Got, Breach}
+use Rattle.std.specs.Prelude.{Ok, Err}
+use Rattle.condition_reader.specs.declared.Breach.{Breach}
+use Rattle.condition_reader.specs.declared.Number.{Number}
+use Rattle.condition_reader.specs.Steps.{refusal_in, place_in}
 use Rattle.text_lines.specs.Says.{separator, field, field_at, FieldSays}
 use Rattle.text_lines.proofs.ReadLaws.{then-got, then-then, then_same}
 
@@ -117,21 +120,21 @@ module _ (s : List ℕ) (from at i : ℕ) (l : List ℕ) (p : Fields s from at i
     at_field =
         p.reads ∙ ap (λ (x : Read (List ℕ)). and_then x (λ vs u. got (take i l ++ vs) u)) (fields_at i (drop at s) h)
 
-    pub fields-bad : (place : ℕ) → FieldSays s at i (Breach place) → line field_bounds (drop from s) ≡ breach 19 (drop place s)
-    fields-bad place e =
+    pub fields-bad : (b : Breach) → FieldSays s at i (Err b) → line field_bounds (drop from s) ≡ breach (refusal_in b) (drop (place_in b) s)
+    fields-bad b e =
         at_field ∙ ap (λ (x : Read ℕ). and_then (and_then x (behind_field i)) (λ vs u. got (take i l ++ vs) u)) e.0
 
-    pub fields-more : (v next : ℕ) → FieldSays s at i (Got v next) → Fields s from next (i + 1) (set l i v)
-    fields-more v next e = record {
+    pub fields-more : (n : Number) → FieldSays s at i (Ok n) → Fields s from n.next (i + 1) (set l i n.value)
+    fields-more n e = record {
       few = omega arith;
-      long = length-set l i v ∙ p.long;
+      long = length-set l i n.value ∙ p.long;
       inside = e.1;
       passed = omega (arith, p.passed, e.2);
       reads =
           at_field
           ∙ ap (λ (x : Read ℕ). and_then (and_then x (behind_field i)) (λ vs u. got (take i l ++ vs) u)) e.0
-          ∙ then-then (fields (drop (i + 1) field_bounds) (drop next s)) _ _
-          ∙ then_same (fields (drop (i + 1) field_bounds) (drop next s)) _ _ (λ vs u. ap (λ (m : List ℕ). got m u) (kept v vs));
+          ∙ then-then (fields (drop (i + 1) field_bounds) (drop n.next s)) _ _
+          ∙ then_same (fields (drop (i + 1) field_bounds) (drop n.next s)) _ _ (λ vs u. ap (λ (m : List ℕ). got m u) (kept n.value vs));
     }
 
   pub fields-done : length field_bounds ≤ i → line field_bounds (drop from s) ≡ got l (drop at s)

@@ -19,13 +19,13 @@ use Rattle.text_format.specs.Document.{field_bounds}
 use Rattle.text_format.specs.Reading.{Read, got, breach, and_then, word, number, line}
 use Rattle.text_format.proofs.LineLaws.{first_byte}
 use Rattle.text_format.proofs.RowLaws.{lines_in, blank, onward, lined, lines_step, values_in, added, closed, behind_value, values-step, behind}
-use Rattle.condition_reader.specs.Steps.{NumberSays}
-use Rattle.condition_reader.specs.declared.Number.TheVariants as number-variants
+use Rattle.std.specs.Prelude.{Ok, Err}
+use Rattle.condition_reader.specs.Steps.{refusal_in, place_in, NumberSays, FoundSays}
+use Rattle.condition_reader.specs.declared.Breach.{Breach}
+use Rattle.condition_reader.specs.declared.Number.{Number}
 use Rattle.text_lines.specs.Lines.{event_of}
-use Rattle.text_lines.specs.Says.{LineSays, RowSays, ValuesSay}
-use Rattle.text_lines.specs.declared.EventLine.TheVariants as line-variants
-use Rattle.text_lines.specs.declared.Rows.{Rows}
-use Rattle.text_lines.specs.declared.Rows.TheVariants.{At, Breach}
+use Rattle.text_lines.specs.Says.{LineSays, ValuesSay}
+use Rattle.text_lines.specs.declared.EventLine.{EventLine}
 use Rattle.text_lines.proofs.ReadLaws.{then-got, then-then, then_same}
 
 -- behind the last row nothing changes
@@ -114,19 +114,19 @@ module _ (s : List ℕ) (at count : ℕ) (events : List Event) (p : Lines s at c
         ∙ ap (λ (x : Read (List (List ℕ))). and_then x (onto p.lines))
         (lines_step (drop at s) ∙ ap (λ (b : Bool). cond b (blank (drop at s)) (lined (drop at s))) h)
 
-    pub lines-bad : (place : ℕ) → LineSays s at (line-variants.Breach place) → lines_in s ≡ breach 19 (drop place s)
-    lines-bad place e =
+    pub lines-bad : (b : Breach) → LineSays s at (Err b) → lines_in s ≡ breach (refusal_in b) (drop (place_in b) s)
+    lines-bad b e =
         at-line ∙ ap (λ (x : Read (List ℕ)). and_then (and_then x onward) (onto p.lines)) e.0
 
-    pub lines_more : (event : Event) (next : ℕ) (e : LineSays s at (line-variants.Got event next)) (after : List Event)
-        → after ≡ firsts event_of [] capacity (p.lines ++ (e.0 ∷ [])) → Lines s next (count + 1) after
-    lines_more event next e after k = record {
+    pub lines_more : (r : EventLine) (e : LineSays s at (Ok r)) (after : List Event)
+        → after ≡ firsts event_of [] capacity (p.lines ++ (e.0 ∷ [])) → Lines s r.next (count + 1) after
+    lines_more r e after k = record {
       lines = p.lines ++ (e.0 ∷ []);
       reads =
           at-line
           ∙ ap (λ (x : Read (List ℕ)). and_then (and_then x onward) (onto p.lines)) e.1
-          ∙ then-then (lines_in (drop next s)) _ _
-          ∙ then_same (lines_in (drop next s)) _ _
+          ∙ then-then (lines_in (drop r.next s)) _ _
+          ∙ then_same (lines_in (drop r.next s)) _ _
           (λ ls t. ap (λ (m : List (List ℕ)). got m t) (sym (append_assoc p.lines (e.0 ∷ []) ls)));
       counted = more_rows p.lines e.0 count p.counted;
       kept = k;
@@ -173,50 +173,49 @@ module _ (s : List ℕ) (from at count : ℕ) (initial : List ℕ) (p : Values s
   at_value : values_in (drop from s) ≡ and_then (and_then (number max_value (drop at s)) behind_value) (onto p.vs)
   at_value = p.reads ∙ ap (λ (x : Read (List ℕ)). and_then x (onto p.vs)) (values-step (drop at s))
 
-  pub values-bad : (place : ℕ) → NumberSays s at max_value (number-variants.Breach place)
-      → values_in (drop from s) ≡ breach 19 (drop place s)
-  values-bad place e = at_value ∙ ap (λ (x : Read ℕ). and_then (and_then x behind_value) (onto p.vs)) e.0
+  pub values-bad : (b : Breach) → NumberSays s at max_value (Err b) → values_in (drop from s) ≡ breach (refusal_in b) (drop (place_in b) s)
+  values-bad b e = at_value ∙ ap (λ (x : Read ℕ). and_then (and_then x behind_value) (onto p.vs)) e.0
 
-  module _ (v next : ℕ) (e : NumberSays s at max_value (number-variants.Got v next)) where
-    past_value : values_in (drop from s) ≡ and_then (behind_value v (drop next s)) (onto p.vs)
+  module _ (n : Number) (e : NumberSays s at max_value (Ok n)) where
+    past_value : values_in (drop from s) ≡ and_then (behind_value n.value (drop n.next s)) (onto p.vs)
     past_value = at_value ∙ ap (λ (x : Read ℕ). and_then (and_then x behind_value) (onto p.vs)) e.0
 
-    module _ (after : List ℕ) (k : after ≡ firsts itself 0 max_locations (p.vs ++ (v ∷ []))) where
-      pub values-more : eqb (get_or (drop next s) 0 0) space ≡ true → Values s from (next + 1) (count + 1) after
+    module _ (h : eqb (get_or (drop n.next s) 0 0) space ≡ false) where
+      at-end : values_in (drop from s)
+          ≡ and_then (and_then (word (newline ∷ []) (drop n.next s)) (λ _ t. got (n.value ∷ []) t)) (onto p.vs)
+      at-end =
+          past_value
+          ∙ ap (λ (b : Bool). and_then (cond b (added n.value (drop n.next s)) (closed n.value (drop n.next s))) (onto p.vs)) h
+
+      pub values-bare : (b : Breach) → FoundSays s n.next (newline ∷ []) (Err b) → values_in (drop from s) ≡ breach (refusal_in b) (drop (place_in b) s)
+      values-bare b q = at-end ∙ ap (λ (x : Read (List ℕ)). and_then (and_then x (λ _ t. got (n.value ∷ []) t)) (onto p.vs)) q.0
+
+    module _ (after : List ℕ) (k : after ≡ firsts itself 0 max_locations (p.vs ++ (n.value ∷ []))) where
+      pub values-more : eqb (get_or (drop n.next s) 0 0) space ≡ true → Values s from (n.next + 1) (count + 1) after
       values-more h = record {
-        vs = p.vs ++ (v ∷ []);
+        vs = p.vs ++ (n.value ∷ []);
         reads =
             past_value
             ∙ ap (λ (x : Read (List ℕ)). and_then x (onto p.vs))
-            (ap (λ (b : Bool). cond b (added v (drop next s)) (closed v (drop next s))) h
-            ∙ behind 31 (drop next s) (λ _ t. and_then (values_in t) (λ ws u. got (v ∷ ws) u)) h
-            ∙ ap (λ (r : List ℕ). and_then (values_in r) (λ ws u. got (v ∷ ws) u)) (behind-byte s next))
-            ∙ then-then (values_in (drop (next + 1) s)) _ _
-            ∙ then_same (values_in (drop (next + 1) s)) _ _
-            (λ ws t. ap (λ (m : List ℕ). got m t) (sym (append_assoc p.vs (v ∷ []) ws)));
-        counted = more_rows p.vs v count p.counted;
+            (ap (λ (b : Bool). cond b (added n.value (drop n.next s)) (closed n.value (drop n.next s))) h
+            ∙ behind 31 (drop n.next s) (λ _ t. and_then (values_in t) (λ ws u. got (n.value ∷ ws) u)) h
+            ∙ ap (λ (r : List ℕ). and_then (values_in r) (λ ws u. got (n.value ∷ ws) u)) (behind-byte s n.next))
+            ∙ then-then (values_in (drop (n.next + 1) s)) _ _
+            ∙ then_same (values_in (drop (n.next + 1) s)) _ _
+            (λ ws t. ap (λ (m : List ℕ). got m t) (sym (append_assoc p.vs (n.value ∷ []) ws)));
+        counted = more_rows p.vs n.value count p.counted;
         kept = k;
-        inside = omega (arith, byte_inside s next 31 h);
+        inside = omega (arith, byte_inside s n.next 31 h);
         few = omega (arith, e.2, p.few);
       }
 
-      module _ (h : eqb (get_or (drop next s) 0 0) space ≡ false) where
-        at-end : values_in (drop from s)
-            ≡ and_then (and_then (word (newline ∷ []) (drop next s)) (λ _ t. got (v ∷ []) t)) (onto p.vs)
-        at-end =
-            past_value
-            ∙ ap (λ (b : Bool). and_then (cond b (added v (drop next s)) (closed v (drop next s))) (onto p.vs)) h
-
-        -- the newline, or the breach in its place
-        pub values-end : (r : Rows) → RowSays s next (count + 1) r → ValuesSay s from after r
-        values-end (At end n) q = (
-          p.vs ++ (v ∷ []),
-          at-end ∙ ap (λ (x : Read (List ℕ)). and_then (and_then x (λ _ t. got (v ∷ []) t)) (onto p.vs)) q.0,
-          q.2 ∙ more_rows p.vs v count p.counted,
+      module _ (h : eqb (get_or (drop n.next s) 0 0) space ≡ false) where
+        pub values-end : (end : ℕ) → FoundSays s n.next (newline ∷ []) (Ok end) →
+            ValuesSay s from (Ok (record { initial = after; count = count + 1; next = end }))
+        values-end end q = (
+          p.vs ++ (n.value ∷ []),
+          at-end h ∙ ap (λ (x : Read (List ℕ)). and_then (and_then x (λ _ t. got (n.value ∷ []) t)) (onto p.vs)) q.0,
+          more_rows p.vs n.value count p.counted,
           k,
-          q.1,
-        )
-        values-end (Breach place) q = (
-          at-end ∙ ap (λ (x : Read (List ℕ)). and_then (and_then x (λ _ t. got (v ∷ []) t)) (onto p.vs)) q.0,
           q.1,
         )

@@ -6,9 +6,9 @@ ghost use Rattle.std.specs.Prelude.{◌≤◌, ◌<◌, ◌≡◌, true, [], ◌
 ghost use Rattle.text_format.specs.Document.{field_bounds, within};
 ghost use Rattle.condition_reader.specs.Steps.{FoundSays};
 ghost use Rattle.text_lines.specs.Lines.{event_of};
-ghost use Rattle.text_lines.specs.Says.{separator, FieldSays, LineSays, LinesSay, RowSays, ValuesSay};
+ghost use Rattle.text_lines.specs.Says.{separator, FieldSays, LineSays, LinesSay, ValuesSay};
 
-use condition_reader::{Found, Number};
+use condition_reader::{Breach, Number};
 use table::{CAPACITY, Event, LOCATIONS, LocationNo};
 
 // The fields of a line, and where each stands in it: in record order.
@@ -54,36 +54,31 @@ const BOUNDS: [u32; FIELDS] = [
     MAX_BYTE, MAX_BYTE,
 ];
 
-// An event and the place behind its line; or the place of the breach.
+// An event, and the place behind its line.
 #[derive(Clone, Copy)]
-pub enum EventLine {
-    Got { event: Event, next: usize },
-    Breach(usize),
+pub struct EventLine {
+    pub event: Event,
+    pub next: usize,
 }
 
-// The place behind the rows, and their number; or the place of the breach.
-#[derive(Clone, Copy)]
-pub enum Rows {
-    At { at: usize, count: usize },
-    Breach(usize),
-}
-
-// The events of the first lines; the slots past them are blank.
+// The events of the first lines, where the slots past them are blank; the number of lines, and the place behind the blank one.
 #[derive(Clone, Copy)]
 pub struct EventLines {
-    pub rows: Rows,
     pub events: [Event; CAPACITY],
+    pub count: usize,
+    pub next: usize,
 }
 
-// The first initial values; those not given are 0.
+// The first initial values, where those not given are 0; the number of values, and the place behind their newline.
 #[derive(Clone, Copy)]
 pub struct InitialValues {
-    pub rows: Rows,
     pub initial: [u16; LOCATIONS],
+    pub count: usize,
+    pub next: usize,
 }
 
 // The byte behind a number of a line.
-fn read_separator(text: &[u8], at: usize, last: bool) -> Found
+fn read_separator(text: &[u8], at: usize, last: bool) -> Result<usize, Breach>
     requires { at ≤ length text.now }
     ensures { FoundSays text.now at (separator last ∷ []) result }
 {
@@ -95,21 +90,13 @@ fn read_separator(text: &[u8], at: usize, last: bool) -> Found
 }
 
 // Field `i` of a line: its number, and the byte behind it.
-fn read_field(text: &[u8], from: usize, i: usize) -> Number
+fn read_field(text: &[u8], from: usize, i: usize) -> Result<Number, Breach>
     requires { (from ≤ length text.now) × (i < length field_bounds) }
     ensures { FieldSays text.now from i result }
 {
-    let number = condition_reader::read_number(text, from, BOUNDS[i]);
-    match number {
-        Number::Breach(place) => Number::Breach(place),
-        Number::Got { value, next: end } => {
-            let behind = read_separator(text, end, i + 1 == FIELDS);
-            match behind {
-                Found::Breach(place) => Number::Breach(place),
-                Found::At(next) => Number::Got { value, next },
-            }
-        }
-    }
+    let number = condition_reader::read_number(text, from, BOUNDS[i])?;
+    let next = read_separator(text, number.next, i + 1 == FIELDS)?;
+    Ok(Number { next, ..number })
 }
 
 // The event of a line's numbers.
@@ -133,30 +120,21 @@ fn event_of(fields: [u32; FIELDS]) -> Event
 }
 
 // One event line.
-pub fn read_line(text: &[u8], from: usize) -> EventLine
+pub fn read_line(text: &[u8], from: usize) -> Result<EventLine, Breach>
     requires { from ≤ length text.now }
     ensures { LineSays text.now from result }
 {
     let mut fields = [0u32; FIELDS];
     let mut at = from;
-    let mut i: usize = 0;
-    while i < FIELDS {
-        let field = read_field(text, at, i);
-        match field {
-            Number::Breach(place) => {
-                return EventLine::Breach(place);
-            }
-            Number::Got { value, next } => {
-                fields[i] = value;
-                at = next;
-            }
-        }
-        i += 1;
+    for i in 0..FIELDS {
+        let field = read_field(text, at, i)?;
+        fields[i] = field.value;
+        at = field.next;
     }
-    EventLine::Got {
+    Ok(EventLine {
         event: event_of(fields),
         next: at,
-    }
+    })
 }
 
 // The next byte is this one.
@@ -164,86 +142,53 @@ fn next_is(text: &[u8], at: usize, byte: u8) -> bool
     requires { 0 < byte }
     ensures { result ≡ eqb (get_or (drop at text.now) 0 0) byte }
 {
-    if at < text.len() {
-        text[at] == byte
-    } else {
-        false
-    }
+    text.get(at) == Some(&byte)
 }
 
 // The event lines at the front of a text, and the blank line behind them.
-pub fn read_events(text: &[u8]) -> EventLines
-    ensures { LinesSay text.now result.events result.rows }
+pub fn read_events(text: &[u8]) -> Result<EventLines, Breach>
+    ensures { LinesSay text.now result }
 {
     let mut events = [table::no_event(); CAPACITY];
     let mut at: usize = 0;
     let mut count: usize = 0;
     while !next_is(text, at, b'\n') {
-        let line = read_line(text, at);
-        match line {
-            EventLine::Breach(place) => {
-                return EventLines {
-                    rows: Rows::Breach(place),
-                    events,
-                };
-            }
-            EventLine::Got { event, next } => {
-                at = next;
-                if count < CAPACITY {
-                    events[count] = event;
-                }
-                count += 1;
-            }
+        let line = read_line(text, at)?;
+        at = line.next;
+        if count < CAPACITY {
+            events[count] = line.event;
         }
+        count += 1;
     }
-    EventLines {
-        rows: Rows::At { at: at + 1, count },
+    Ok(EventLines {
         events,
-    }
-}
-
-// The newline behind so many values.
-fn end_row(text: &[u8], at: usize, count: usize) -> Rows
-    requires { at ≤ length text.now }
-    ensures { RowSays text.now at count result }
-{
-    let end = condition_reader::read_word(text, at, b"\n");
-    match end {
-        Found::Breach(place) => Rows::Breach(place),
-        Found::At(next) => Rows::At { at: next, count },
-    }
+        count,
+        next: at + 1,
+    })
 }
 
 // The initial values from a place on, and the newline behind them.
-pub fn read_values(text: &[u8], from: usize) -> InitialValues
+pub fn read_values(text: &[u8], from: usize) -> Result<InitialValues, Breach>
     requires { from ≤ length text.now }
-    ensures { ValuesSay text.now from result.initial result.rows }
+    ensures { ValuesSay text.now from result }
 {
     let mut initial = [0u16; LOCATIONS];
     let mut at = from;
     let mut count: usize = 0;
     loop {
-        let number = condition_reader::read_number(text, at, MAX_WORD);
-        match number {
-            Number::Breach(place) => {
-                return InitialValues {
-                    rows: Rows::Breach(place),
-                    initial,
-                };
-            }
-            Number::Got { value, next } => {
-                if count < LOCATIONS {
-                    initial[count] = value as u16;
-                }
-                count += 1;
-                if !next_is(text, next, b' ') {
-                    return InitialValues {
-                        rows: end_row(text, next, count),
-                        initial,
-                    };
-                }
-                at = next + 1;
-            }
+        let number = condition_reader::read_number(text, at, MAX_WORD)?;
+        if count < LOCATIONS {
+            initial[count] = number.value as u16;
         }
+        count += 1;
+        if !next_is(text, number.next, b' ') {
+            let next = condition_reader::read_word(text, number.next, b"\n")?;
+            return Ok(InitialValues {
+                initial,
+                count,
+                next,
+            });
+        }
+        at = number.next + 1;
     }
 }

@@ -26,10 +26,8 @@ fn places(t: Table) -> [u32; CAPACITY]
     ensures { result ≡ padded capacity t.count (location t) }
 {
     let mut row = [0u32; CAPACITY];
-    let mut e: u8 = 0;
-    while e < t.count {
+    for e in 0..t.count {
         row[e as usize] = t.events[e as usize].location.0 as u32;
-        e += 1;
     }
     row
 }
@@ -38,7 +36,7 @@ fn places(t: Table) -> [u32; CAPACITY]
 fn value(v: u16) -> u32
     ensures { (result ≡ v) × (v < 2 ^ 16) }
 {
-    v as u32
+    u32::from(v)
 }
 
 // The value that each event states to write.
@@ -48,10 +46,8 @@ fn written(t: Table) -> [u32; CAPACITY]
     ensures narrow_written { NarrowWritten t }
 {
     let mut row = [0u32; CAPACITY];
-    let mut e: u8 = 0;
-    while e < t.count {
+    for e in 0..t.count {
         row[e as usize] = value(t.events[e as usize].written);
-        e += 1;
     }
     row
 }
@@ -60,7 +56,7 @@ fn written(t: Table) -> [u32; CAPACITY]
 fn action(operation: u8, operand: u8) -> u32
     ensures { (result ≡ operation + 256 * operand) × (operation < 2 ^ 8) × (operand < 2 ^ 8) }
 {
-    operation as u32 + OPERAND * operand as u32
+    u32::from(operation) + OPERAND * u32::from(operand)
 }
 
 // Those of each event.
@@ -70,11 +66,9 @@ fn actions(t: Table) -> [u32; CAPACITY]
     ensures narrow_actions { NarrowActions t }
 {
     let mut row = [0u32; CAPACITY];
-    let mut e: u8 = 0;
-    while e < t.count {
+    for e in 0..t.count {
         let x = t.events[e as usize];
         row[e as usize] = action(x.operation, x.operand);
-        e += 1;
     }
     row
 }
@@ -85,10 +79,8 @@ fn writers(t: Table, s: Sets) -> [u32; CAPACITY]
     ensures { result ≡ padded capacity t.locations (λ x. mask_by t (λ w. writes t w && eqb (location t w) x)) }
 {
     let mut row = [0u32; CAPACITY];
-    let mut x: u8 = 0;
-    while x < t.locations {
+    for x in 0..t.locations {
         row[x as usize] = s.writers & s.locations[x as usize];
-        x += 1;
     }
     row
 }
@@ -100,10 +92,8 @@ fn initial(t: Table) -> [u32; CAPACITY]
     ensures narrow_initial { NarrowInitial t }
 {
     let mut row = [0u32; CAPACITY];
-    let mut x: u8 = 0;
-    while x < t.locations {
+    for x in 0..t.locations {
         row[x as usize] = value(t.initial[x as usize]);
-        x += 1;
     }
     row
 }
@@ -114,10 +104,8 @@ fn operated(t: Table) -> u32
     ensures { result ≡ mask_by t (λ e. not (eqb (event t e).operation no_operation)) }
 {
     let mut mask: u32 = 0;
-    let mut e: u8 = 0;
-    while e < t.count {
-        mask = mask | one_if(t.events[e as usize].operation != Operation::NONE, e);
-        e += 1;
+    for e in 0..t.count {
+        mask |= one_if(t.events[e as usize].operation != Operation::NONE, e);
     }
     mask
 }

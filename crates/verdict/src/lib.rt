@@ -35,28 +35,23 @@ pub fn judge(t: Table, rf: &[u8], gmo: &[u8]) -> Verdict
     requires { (t.count ≤ capacity) × (t.locations ≤ max_locations) × (length rf.now ≡ t.count) }
     ensures { judged_of result ≡ answered (verdict t rf.now gmo.now) }
 {
-    let pair = pairs::lowest_pair(t, rf, gmo);
-    let a = pair.a;
-    if a.0 < t.count {
+    if let Some(pair) = pairs::lowest_pair(t, rf, gmo) {
+        let a = pair.a;
         let b = pair.b;
         let set = rules::rule_set(t, rf, a, b);
         return Verdict::Broken(Axiom::PreservedOrder(a, b, set));
     }
-    let r = stated_values::lowest_load_value(t, rf, gmo);
-    if r.0 < t.count {
+    if let Some(r) = stated_values::lowest_load_value(t, rf, gmo) {
         return Verdict::Broken(Axiom::LoadValue(r));
     }
-    let l = atomicity::lowest_lr(t, rf, gmo);
-    if l.0 < t.count {
+    if let Some(l) = atomicity::lowest_lr(t, rf, gmo) {
         let w = atomicity::atomicity_writer(t, rf, gmo, l);
         return Verdict::Broken(Axiom::Atomicity(l, w));
     }
-    let r = stated_values::lowest_value_read(t, rf);
-    if r.0 < t.count {
+    if let Some(r) = stated_values::lowest_value_read(t, rf) {
         return Verdict::Broken(Axiom::ValueRead(r));
     }
-    let x = stated_values::lowest_final_value(t, gmo);
-    if x.0 < t.locations {
+    if let Some(x) = stated_values::lowest_final_value(t, gmo) {
         return Verdict::Broken(Axiom::FinalValue(x));
     }
     Verdict::Allowed

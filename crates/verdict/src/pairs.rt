@@ -2,12 +2,12 @@
 ghost use Rattle.std.specs.Prelude.{◌≤◌, ◌<◌, ◌≡◌, length};
 ghost use Rattle.table.specs.Events.{capacity};
 ghost use Rattle.model.specs.Axioms.{breaks_ppo};
-ghost use Rattle.verdict.specs.Pairs.{LowestPair};
+ghost use Rattle.verdict.specs.Pairs.{FindsPair};
 
 use global_order::before;
 use table::{EventNo, Table, may_order};
 
-// Event numbers a and b; a is the number of events where there is no pair.
+// Event numbers a and b.
 #[derive(Clone, Copy)]
 pub struct Pair {
     pub a: EventNo,
@@ -27,29 +27,23 @@ fn breaks_ppo(t: Table, rf: &[u8], gmo: &[u8], a: EventNo, b: EventNo) -> bool
 }
 
 // "the lowest a, and for that a the lowest b". Of a pair that no rule can order no call, which would copy the table.
-pub fn lowest_pair(t: Table, rf: &[u8], gmo: &[u8]) -> Pair
+pub fn lowest_pair(t: Table, rf: &[u8], gmo: &[u8]) -> Option<Pair>
     requires { (t.count ≤ capacity) × (length rf.now ≡ t.count) }
-    ensures { LowestPair t.count (breaks_ppo t rf.now gmo.now) result.a.0 result.b.0 }
+    ensures { FindsPair t.count (breaks_ppo t rf.now gmo.now) result }
 {
-    let mut a: u8 = 0;
-    let mut b: u8 = 0;
-    'pairs: while a < t.count {
+    for a in 0..t.count {
         let x = t.events[a as usize];
-        b = 0;
-        while b < t.count {
+        for b in 0..t.count {
             if !may_order(EventNo(a), x, EventNo(b), t.events[b as usize]) {
-                b += 1;
                 continue;
             }
             if breaks_ppo(t, rf, gmo, EventNo(a), EventNo(b)) {
-                break 'pairs;
+                return Some(Pair {
+                    a: EventNo(a),
+                    b: EventNo(b),
+                });
             }
-            b += 1;
         }
-        a += 1;
     }
-    Pair {
-        a: EventNo(a),
-        b: EventNo(b),
-    }
+    None
 }

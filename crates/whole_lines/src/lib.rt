@@ -14,12 +14,10 @@ use table::{Event, LOCATIONS, Model, Table};
 fn states_missing(stated: u8, locations: u8) -> bool
     ensures { result ≡ states_missing stated locations }
 {
-    let mut x: u8 = 0;
-    while (x as usize) < LOCATIONS {
-        if masks::has(stated as u32, x as u32) & (locations <= x) {
+    for x in 0..LOCATIONS as u8 {
+        if masks::has(u32::from(stated), u32::from(x)) & (locations <= x) {
             return true;
         }
-        x += 1;
     }
     false
 }
@@ -39,12 +37,10 @@ pub fn line5(most: usize, harts: u8, locations: u8, events: u8, stated: u8, mode
 pub fn initial_not_zero(locations: u8, initial: [u16; LOCATIONS]) -> bool
     ensures { result ≡ some max_locations (initial_not_zero locations initial) }
 {
-    let mut x: u8 = 0;
-    while (x as usize) < LOCATIONS {
-        if (locations <= x) & (initial[x as usize] != 0) {
+    for (x, value) in initial.iter().enumerate() {
+        if (usize::from(locations) <= x) & (*value != 0) {
             return true;
         }
-        x += 1;
     }
     false
 }
@@ -52,12 +48,10 @@ pub fn initial_not_zero(locations: u8, initial: [u16; LOCATIONS]) -> bool
 pub fn final_not_zero(stated: u8, finals: [u16; LOCATIONS]) -> bool
     ensures { result ≡ some max_locations (final_not_zero stated finals) }
 {
-    let mut x: u8 = 0;
-    while (x as usize) < LOCATIONS {
-        if !masks::has(stated as u32, x as u32) & (finals[x as usize] != 0) {
+    for x in 0..LOCATIONS as u8 {
+        if !masks::has(u32::from(stated), u32::from(x)) & (finals[usize::from(x)] != 0) {
             return true;
         }
-        x += 1;
     }
     false
 }
@@ -81,12 +75,10 @@ fn blank(e: Event) -> bool
 pub fn past_not_blank(t: Table) -> bool
     ensures { result ≡ some capacity (past_not_blank t) }
 {
-    let mut k: u8 = t.count;
-    while (k as usize) < table::CAPACITY {
-        if !blank(t.events[k as usize]) {
+    for k in t.count..table::CAPACITY as u8 {
+        if !blank(t.events[usize::from(k)]) {
             return true;
         }
-        k += 1;
     }
     false
 }

@@ -9,6 +9,7 @@ ghost use Rattle.decode.specs.Layout.{long_at, wide_record_at};
 ghost use Rattle.decode.specs.Decoded.{wide_record_from, event_at, decoded_as};
 
 use edition::{EditionOne, EditionTwo};
+use std::array;
 use table::{CAPACITY, Event, LocationNo, Table};
 
 // Where the fields of a wide record stand, counted from its start.
@@ -44,15 +45,12 @@ const RECORD: usize = 32;
 
 const RECORDS: usize = 15;
 
-// How many numbers there are of two bytes.
-const WORDS: u32 = 65536;
-
 // The number of four bytes, the low one first.
 fn long_at(s: &[u8], at: usize) -> u32
     requires { at + 3 < length s.now }
     ensures { result ≡ long_at s.now at }
 {
-    decode::word_at(s, at) as u32 + WORDS * decode::word_at(s, at + decode::WORD) as u32
+    u32::from_le_bytes([s[at], s[at + 1], s[at + 2], s[at + 3]])
 }
 
 // The wide record whose first byte is at `at`.
@@ -99,13 +97,7 @@ fn events(s: &[u8]) -> [Event; CAPACITY]
     requires { test_length two ≤ length s.now }
     ensures { result ≡ up_to capacity (event_at two s.now) }
 {
-    let mut list = [table::no_event(); CAPACITY];
-    let mut k: usize = 0;
-    while k < CAPACITY {
-        list[k] = event_at(s, k);
-        k += 1;
-    }
-    list
+    array::from_fn(|k| event_at(s, k))
 }
 
 // Any bytes give a table. Whether it is a good one is for the refusals to say.

@@ -20,7 +20,7 @@ use Rattle.model.specs.Prefixes.{clean}
 use Rattle.placing.specs.Guards.{reads_stated}
 use Rattle.order_facts.specs.Facts.{mask_by, good, here, right}
 use Rattle.order_facts.proofs.GoodLaws.{good_more}
-use Rattle.fact_rows.specs.FactRows.{mask, Facts, here_row, right_row}
+use Rattle.fact_rows.specs.FactRows.{Facts, here_row, right_row}
 use Rattle.order_test.proofs.TellLaws.{mask_is}
 use Rattle.engine.specs.Entered.{always}
 use Rattle.witness_walk.specs.Running.{Enters, EntersBy, GoodsTo, good_behind}

@@ -5,13 +5,13 @@ use native.Mathlib.Numerals.{add-one}
 use mathlib.Core.Path.{◌≡◌, refl, sym, ap, ap₂, ◌∙◌, fun_ext}
 use mathlib.Core.Bool.{Bool, true, false, cond}
 use mathlib.Core.List.{List, [], ◌∷◌, ◌++◌}
-use mathlib.Core.Logic.{◌⊎◌, inl, inr}
-use lib.ListN.{length, get_or, take, drop, set, length-set, take-append-drop}
-use lib.Seq.{take-suc, take-take, get_or-take, length-take-le, get_or-set_same}
+use mathlib.Core.Logic.{inl, inr}
+use lib.ListN.{length, get_or, take, drop, set, length-set, length-take, take-append-drop}
+use lib.Seq.{take-suc, take-take, get_or-take, get_or-set_same}
 use lib.Bits.{bit_or}
 use lib.Dec.{eqb, ltb}
 use borrow.Author.Tests.{ltb-true, lt-ltb}
-use Rattle.lists.specs.Lists.{all}
+use Rattle.std.specs.Prelude.{Some, None}
 use Rattle.lists.specs.Below.{first_from}
 use Rattle.lists.proofs.BoolLaws.{and_l, is_false, not-either}
 use Rattle.lists.proofs.KeepLaws.{all-weaken}
@@ -25,7 +25,7 @@ use Rattle.prefixes.specs.Statements.{PrefixClosed}
 use Rattle.prefixes.proofs.ListedLaws.{prefix-passes}
 use Rattle.model.specs.Returns.{final_value, written_value}
 use Rattle.model.specs.Witness.{is_memory_event}
-use Rattle.model.specs.Prefixes.{is_prefix, predecessors_listed, clean}
+use Rattle.model.specs.Prefixes.{is_prefix, clean}
 use Rattle.model.proofs.PrefixLaws.{clean-closed}
 use Rattle.order_facts.specs.Facts.{mask_by, good}
 use Rattle.fact_rows.specs.FactRows.{mask, Facts, set_row, good_word}
@@ -37,9 +37,7 @@ use Rattle.engine.specs.State.{Holds}
 use Rattle.engine.specs.Entered.{entered, reachable}
 use Rattle.engine.proofs.EnteredLaws.{reachable-next, reachable-closed, reachable-not}
 use Rattle.engine.proofs.StateLaws.{mask-snoc, room}
-use Rattle.witness_walk.specs.declared.Followed.{Followed}
-use Rattle.witness_walk.specs.declared.Followed.TheVariants.{Reached, Cut}
-use Rattle.witness_walk.specs.Running.{Enters, EntersBy, good_behind, GoodsTo, Begun, Follows, LeftOf}
+use Rattle.witness_walk.specs.Running.{Enters, EntersBy, good_behind, GoodsTo, Follows, LeftOf}
 use Rattle.witness_walk.proofs.EntersLaws.{enters_is, goods-more}
 use Rattle.witness_walk.proofs.WalkLaws.{noted-long}
 
@@ -88,38 +86,38 @@ follow-start {facts} {order = order} goods long = record {
 
 module _ {facts : List (List ℕ)} {watched len i placed : ℕ} {order goods : List ℕ} {into : Bool} (fit : Fitting order len)
     (following : Following facts watched order goods len i placed into) where
-  module _ (l : i < len) where
+  module _ (l : i < length (take len order)) where
+    inside : i < len
+    inside = omega (arith, length-take len order)
+
     -- the next entry
     abbrev e : ℕ
-    e = get_or order i 0
+    e = get_or (take len order) i 0
 
     -- it has room in a mask
     pub follow-room : e < capacity
-    follow-room =
-        ltb-true e capacity (ap (λ (x : ℕ). ltb x capacity) (sym (get_or-take len order i 0 l))
-        ∙ all_get_d (λ x. ltb x capacity) (take len order) i fit.fitting (omega (arith, length-take-le len order (omega (arith, fit.long, fit.within)))))
+    follow-room = ltb-true e capacity (all_get_d (λ x. ltb x capacity) (take len order) i fit.fitting l)
 
     next-is : take (i + 1) order ≡ take i order ++ (e ∷ [])
-    next-is = ap (λ (n : ℕ). take n order) (add-one i) ∙ take-suc order i 0 (omega (arith, fit.long, fit.within))
+    next-is =
+        ap (λ (n : ℕ). take n order) (add-one i) ∙ take-suc order i 0 (omega (arith, fit.long, fit.within, inside))
+        ∙ ap (λ (x : ℕ). take i order ++ (x ∷ [])) (sym (get_or-take len order i 0 inside))
 
     -- a test that the start passes, its beginnings pass
     begins : (ok : List ℕ → Bool) → PrefixClosed ok → ok (take len order) ≡ true → ok (take i order ++ (e ∷ [])) ≡ true
     begins ok closed h =
         ap ok (sym next-is)
         ∙ prefix-passes ok [] closed (take (i + 1) order) (drop (i + 1) (take len order))
-        (ap ok (ap (λ (p : List ℕ). p ++ drop (i + 1) (take len order)) (sym (take-take (i + 1) len order (omega arith)))
+        (ap ok (ap (λ (p : List ℕ). p ++ drop (i + 1) (take len order)) (sym (take-take (i + 1) len order (omega (arith, inside))))
         ∙ take-append-drop (i + 1) (take len order)) ∙ h)
 
     counted : (t : Table) → clean t (take len order) ≡ true → e < t.count
     unfolding clean is_prefix is_memory_event
     counted t c =
-        ltb-true e t.count (ap (λ (x : ℕ). ltb x t.count) (sym (get_or-take len order i 0 l))
-        ∙ and_l _ (memory t (get_or (take len order) i 0))
-        (all_get_d (is_memory_event t) (take len order) i (and_l _ _ (and_l _ _ c))
-        (omega (arith, length-take-le len order (omega (arith, fit.long, fit.within))))))
+        ltb-true e t.count (and_l _ (memory t e) (all_get_d (is_memory_event t) (take len order) i (and_l _ _ (and_l _ _ c)) l))
 
     -- what was got to isn't entered: the walk doesn't get to the start
-    pub follow-cut : (can : ℕ) → into ≡ false → Follows facts watched order goods len can Cut
+    pub follow-cut : (can : ℕ) → into ≡ false → Follows facts watched order goods len can None
     follow-cut can n t enters f q c =
         is_false _ (λ h. not-either (reachable (clean t) enters (take i order ++ (e ∷ [])))
         (begins (reachable (clean t) enters) (reachable-closed enters (clean t) (clean-closed t)) h)
@@ -141,12 +139,12 @@ module _ {facts : List (List ℕ)} {watched len i placed : ℕ} {order goods : L
                 ∙ reachable-next enters (clean t) (take i order) e g.reached (g.enter ∙ n) d;
             enter = ap enters next-is
                 ∙ sym (enters_is f (counted t c) r q d (g.enter ∙ n) following.mask (λ x. g.kept x i (omega arith)) h);
-            kept = λ x. goods-more f (counted t c) order order goods i x (g.kept x) (omega (arith, following.long)) s next-is (λ k j. refl);
+            kept = λ x. goods-more f (counted t c) order order goods i x (g.kept x) (omega (arith, following.long, inside)) s next-is (λ k j. refl);
           };
     }
 
   -- the whole start is followed
-  pub follow-end : {can later : ℕ} → i ≤ len → len ≤ i → later ≡ cond into can 0 → Follows facts watched order goods len can (Reached later)
+  pub follow-end : {can later : ℕ} → i ≤ len → len ≤ i → later ≡ cond into can 0 → Follows facts watched order goods len can (Some later)
   follow-end {can} below above q t enters f w c =
       let g = following.got t enters f w c in
       let same : i ≡ len = omega arith in
@@ -157,7 +155,7 @@ module _ {facts : List (List ℕ)} {watched len i placed : ℕ} {order goods : L
       }
 
 -- all that may come behind is left to try, or nothing
-pub left-of : (into : Bool) {can later : ℕ} → later ≡ cond into can 0 → LeftOf can (Reached later)
+pub left-of : (into : Bool) {can later : ℕ} → later ≡ cond into can 0 → LeftOf can (Some later)
 left-of true q = inl q
 left-of false q = inr q
 

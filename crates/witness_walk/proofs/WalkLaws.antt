@@ -21,12 +21,12 @@ use Rattle.condition_test.specs.Kept.{Starts, Keeps}
 use Rattle.condition_test.specs.Wanted.{Witnesses}
 use Rattle.condition_test.proofs.RunLaws.{starts-keeps}
 use Rattle.model.specs.Witness.{witness_for}
-use Rattle.successors.specs.CleanMasks.{slots, limit, clean_by}
+use Rattle.successors.specs.CleanMasks.{slots, limit}
 use Rattle.successors.specs.Waiting.{Prepared}
 use Rattle.ready_events.specs.Current.{Current}
 use Rattle.ready_events.proofs.CleanLaws.{clean-events, clean-ones, clean-short}
 use Rattle.engine.specs.State.{Holds}
-use Rattle.engine.proofs.StepLaws.{Standing, stand-start, start_from, stand-room, stand-back, stand-on, stand-past, next-stored, next-clean, next-few, next-room}
+use Rattle.engine.proofs.StepLaws.{Standing, stand-start, start_from, stand-back, stand-on, stand-past, next-stored, next-clean, next-few, next-room}
 use Rattle.witness_walk.specs.declared.Ending.{Ending}
 use Rattle.witness_walk.specs.declared.Ending.TheVariants.{Found, NoneLeft, Spent}
 use Rattle.witness_walk.specs.Ending.{answer_of}

@@ -1,5 +1,5 @@
 -- What a walk is handed of a table, where it begins, and what it answers.
-use Rattle.std.specs.Prelude.{ℕ, ◌≤◌, ◌≡◌, Bool, true, false, cond, not, ◌||◌, List, [], ◌∷◌, ◌++◌, ◌⊎◌, get_or, take}
+use Rattle.std.specs.Prelude.{ℕ, ◌≤◌, ◌≡◌, Bool, true, false, cond, not, ◌||◌, List, Option, Some, None, [], ◌∷◌, ◌++◌, ◌⊎◌, get_or, take}
 use Rattle.std.specs.Int.Bits.{bit_and, bit_or, bit_xor}
 use Rattle.lists.specs.Lists.{has}
 use Rattle.masks.specs.Bit.{bit}
@@ -21,8 +21,6 @@ use Rattle.precedence.specs.Precedence.{predecessor_masks}
 use Rattle.witness_walk.specs.declared.Ending.{Ending}
 use Rattle.witness_walk.specs.declared.Ending.TheVariants.{Found, NoneLeft, Spent}
 use Rattle.witness_walk.specs.declared.Path.{Path}
-use Rattle.witness_walk.specs.declared.Followed.{Followed}
-use Rattle.witness_walk.specs.declared.Followed.TheVariants.{Reached, Cut}
 use Rattle.witness_walk.specs.Ending.{answer_of}
 
 -- What a walk enters, by the mask of the readers that it watches: a prefix with one more event, unless that is a watched reader
@@ -85,17 +83,17 @@ Runs facts words preds mem watched order goods from b o after =
     answer_of o after ≡ search_from t outcome enters (take from.keep order) b 0
 
 -- how a start of len entries, with can the mask of the events that may come behind it, was followed
-abbrev pub FollowedAs : Table → (List ℕ → Bool) → ℕ → List ℕ → List ℕ → ℕ → ℕ → Followed → Type 0
-FollowedAs t enters watched order goods len can (Reached later) = Begun t enters watched order goods len can later
-FollowedAs t enters watched order goods len can Cut = reachable (clean t) enters (take len order) ≡ false
+abbrev pub FollowedAs : Table → (List ℕ → Bool) → ℕ → List ℕ → List ℕ → ℕ → ℕ → Option ℕ → Type 0
+FollowedAs t enters watched order goods len can (Some later) = Begun t enters watched order goods len can later
+FollowedAs t enters watched order goods len can None = reachable (clean t) enters (take len order) ≡ false
 
 -- all that may come behind it is left to try, or nothing
-abbrev pub LeftOf : ℕ → Followed → Type 0
-LeftOf can (Reached later) = (later ≡ can) ⊎ (later ≡ 0)
-LeftOf can Cut = Unit {0}
+abbrev pub LeftOf : ℕ → Option ℕ → Type 0
+LeftOf can (Some later) = (later ≡ can) ⊎ (later ≡ 0)
+LeftOf can None = Unit {0}
 
 -- the same of every table that was handed in, where the start is clean
-abbrev pub Follows : List (List ℕ) → ℕ → List ℕ → List ℕ → ℕ → ℕ → Followed → Type 0
+abbrev pub Follows : List (List ℕ) → ℕ → List ℕ → List ℕ → ℕ → ℕ → Option ℕ → Type 0
 Follows facts watched order goods len can r =
     (t : Table) (enters : List ℕ → Bool) → Facts t facts → Enters t watched enters → clean t (take len order) ≡ true →
     FollowedAs t enters watched order goods len can r

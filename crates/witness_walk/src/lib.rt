@@ -57,11 +57,7 @@ fn enters(facts: &[[u32; CAPACITY]; ROWS], watched: u32, placed: u32, good: u32,
     requires { e < capacity }
     ensures { EntersBy (bit watched e) facts.now placed good e result }
 {
-    if has(watched, e as u32) {
-        order_test::reads_stated(facts, placed, good, e)
-    } else {
-        true
-    }
+    !has(watched, u32::from(e)) || order_test::reads_stated(facts, placed, good, e)
 }
 
 // Keeps the mask of the good behind `e`, which stands behind `keep` entries. Where no reader is watched, none is asked for.
@@ -81,17 +77,8 @@ fn note_good(
     }
 }
 
-// A start, followed as the walk would.
-#[derive(Clone, Copy)]
-pub enum Followed {
-    // The walk gets to it; the events that are to be tried behind it.
-    Reached(u32),
-    // It doesn't: a proper prefix isn't entered.
-    Cut,
-}
-
-// Follows the clean start at the front of the order. Behind its last entry all that may come next is to be tried if it is
-// entered, else nothing. The masks of the good are kept on the way.
+// Follows the clean start at the front of the order as the walk would, unless a proper prefix isn't entered: the events that are
+// to be tried behind its last entry are all that may come next if it is entered, else none. The masks of the good are kept on the way.
 pub fn follow(
     facts: &[[u32; CAPACITY]; ROWS],
     watched: u32,
@@ -99,7 +86,7 @@ pub fn follow(
     len: usize,
     can: u32,
     goods: &mut [u32; SLOTS],
-) -> Followed
+) -> Option<u32>
     requires { Fitting order.now len × (len < slots) × (length goods.old ≡ slots) }
     ensures follows { Follows facts.now watched order.now goods.new len can result }
     ensures left_of { LeftOf can result × (length goods.new ≡ slots) }
@@ -107,18 +94,15 @@ pub fn follow(
     goods[0] = facts[SETS][GOOD];
     let mut placed: u32 = 0;
     let mut entered = true;
-    let mut i: usize = 0;
-    while i < len {
+    for (i, &e) in order[..len].iter().enumerate() {
         if !entered {
-            return Followed::Cut;
+            return None;
         }
-        let e = order[i];
         entered = enters(facts, watched, placed, goods[i], e);
         note_good(facts, watched, goods, i, e);
-        placed = placed | one(e as u32);
-        i += 1;
+        placed |= one(u32::from(e));
     }
-    Followed::Reached(mask_if(entered, can))
+    Some(mask_if(entered, can))
 }
 
 // Visits the prefixes greater than the order's, ascending. The budget is tested once the next prefix is known and before it is
@@ -154,7 +138,7 @@ pub fn walk(
                 return Ending::NoneLeft { visited };
             }
             keep -= 1;
-            let e = order[keep] as u32;
+            let e = u32::from(order[keep]);
             masks = ready_events::take_back(succ, e, masks.placed, masks.can);
             later = engine::past(masks.can, e);
             continue;
@@ -167,7 +151,7 @@ pub fn walk(
         visited += 1;
         let b = one(e);
         last = masks.placed | b;
-        later = later ^ b;
+        later ^= b;
         if !enters(facts, watched, masks.placed, goods[keep], e as u8) {
             continue;
         }

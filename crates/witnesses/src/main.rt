@@ -1,10 +1,10 @@
 // Walks all witnesses of one test of standard input: a line each, and their number at the end.
 #![tactic(auto)]
 
-use console::{Command, Filled, Line};
+use console::{Command, Line};
 use edition::EditionTwo;
 use search::Reply;
-use std::io::{Error, Result};
+use std::io::Result;
 use witness_walk::Ending;
 
 // How many prefixes a call may visit. A progress line is written when they are spent.
@@ -16,16 +16,13 @@ const INPUT: usize = EditionTwo::TEST + 1;
 // No order and no returned list is longer.
 const LIST: usize = EditionTwo::EVENTS;
 
-// Where a walk is: the prefix that its next call starts from, and how many witnesses and prefixes there were. It has ended
-// when a call said that none are left, or refused, or when a line was lost.
+// Where a walk is: the prefix that its next call starts from, and how many witnesses and prefixes there were.
 #[derive(Clone, Copy)]
 struct Walk {
     prefix: [u8; LIST],
     len: usize,
     witnesses: u64,
     visited: u64,
-    ended: bool,
-    lost: Option<Error>,
 }
 
 fn usage(rt: &HostRuntime) {
@@ -47,36 +44,28 @@ then says. During long walks lines on standard error say how far the walk is.
     }
 }
 
-// No walk gets to the bound.
-fn sum(a: u64, b: u64) -> u64 {
-    if b <= u64::MAX - a { a + b } else { u64::MAX }
-}
-
 // Reader e returns from event w, or from the initial value.
 fn from(line: Line, e: usize, w: u8) -> Line {
     let begun = line.text(b"; ").number(e as u64).text(b" reads from ");
     if w == reads_from::INITIALLY {
         begun.text(b"initial")
     } else {
-        begun.number(console::wide(w))
+        begun.number(u64::from(w))
     }
 }
 
-fn returned(line: Line, list: [u8; LIST]) -> Line {
+fn returned(line: Line, list: &[u8; LIST]) -> Line {
     let mut filled = line;
-    let mut e: usize = 0;
-    while e < LIST {
-        if list[e] != reads_from::NOTHING {
-            filled = from(filled, e, list[e]);
+    for (e, w) in list.iter().enumerate() {
+        if *w != reads_from::NOTHING {
+            filled = from(filled, e, *w);
         }
-        e += 1;
     }
     filled
 }
 
-fn witness(rt: &HostRuntime, test: &[u8], walk: Walk) -> Result<()> {
-    let prefix = walk.prefix;
-    let order = console::front(&prefix, walk.len);
+fn witness(rt: &HostRuntime, test: &[u8], walk: &Walk) -> Result<()> {
+    let order = console::front(&walk.prefix, walk.len);
     let mut list = [reads_from::NOTHING; LIST];
     bench::returns(test, order, &mut list);
     let begun = Line::output(rt)
@@ -84,74 +73,73 @@ fn witness(rt: &HostRuntime, test: &[u8], walk: Walk) -> Result<()> {
         .number(walk.witnesses)
         .text(b": order")
         .list(order);
-    returned(begun, list).end()
+    returned(begun, &list).end()
 }
 
-fn progress(rt: &HostRuntime, walk: Walk) {
-    let prefix = walk.prefix;
-    let entries = console::front(&prefix, walk.len);
+fn progress(rt: &HostRuntime, walk: &Walk) {
     let _ = Line::error(rt)
         .number(walk.visited)
         .text(b" visited, ")
         .number(walk.witnesses)
         .text(b" witnesses so far, at prefix")
-        .list(entries)
+        .list(console::front(&walk.prefix, walk.len))
         .end();
 }
 
-fn last(rt: &HostRuntime, walk: Walk) -> Result<()> {
-    let begun = if walk.witnesses == 0 {
-        Line::output(rt).text(b"no witness: forbidden")
-    } else if walk.witnesses == 1 {
-        Line::output(rt).text(b"1 witness")
-    } else {
-        Line::output(rt).number(walk.witnesses).text(b" witnesses")
+fn last(rt: &HostRuntime, witnesses: u64, visited: u64) -> Result<()> {
+    let begun = match witnesses {
+        0 => Line::output(rt).text(b"no witness: forbidden"),
+        1 => Line::output(rt).text(b"1 witness"),
+        n => Line::output(rt).number(n).text(b" witnesses"),
     };
-    begun
-        .text(b", ")
-        .number(walk.visited)
-        .text(b" visited")
-        .end()
+    begun.text(b", ").number(visited).text(b" visited").end()
 }
 
-// What the walk is after a call that answered; and its line.
-fn answered(rt: &HostRuntime, test: &[u8], walk: Walk, ending: Ending, answer: [u8; LIST]) -> Walk {
-    let mut next = walk;
+// After a call that answered, the line of its answer: where the walk then is, none if it has ended; an error if a line was lost.
+// No count gets to the bound.
+fn answered(
+    rt: &HostRuntime,
+    test: &[u8],
+    walk: Walk,
+    ending: Ending,
+    answer: [u8; LIST],
+) -> Result<Option<Walk>> {
     match ending {
         Ending::Found { len, visited } => {
-            next.prefix = answer;
-            next.len = len;
-            next.witnesses = sum(walk.witnesses, 1);
-            next.visited = sum(walk.visited, visited);
-            next.lost = witness(rt, test, next).err();
-            next.ended = next.lost.is_some();
+            let next = Walk {
+                prefix: answer,
+                len,
+                witnesses: walk.witnesses.saturating_add(1),
+                visited: walk.visited.saturating_add(visited),
+            };
+            witness(rt, test, &next)?;
+            Ok(Some(next))
         }
         Ending::NoneLeft { visited } => {
-            next.visited = sum(walk.visited, visited);
-            next.ended = true;
-            next.lost = last(rt, next).err();
+            last(rt, walk.witnesses, walk.visited.saturating_add(visited))?;
+            Ok(None)
         }
         Ending::Spent { len, visited } => {
-            next.prefix = answer;
-            next.len = len;
-            next.visited = sum(walk.visited, visited);
-            progress(rt, next);
+            let next = Walk {
+                prefix: answer,
+                len,
+                visited: walk.visited.saturating_add(visited),
+                ..walk
+            };
+            progress(rt, &next);
+            Ok(Some(next))
         }
     }
-    next
 }
 
-// The next call of the walk.
-fn call(rt: &HostRuntime, test: &[u8], walk: Walk) -> Walk {
-    let start = walk.prefix;
-    let len = walk.len;
+// The next call of the walk, in the same way.
+fn call(rt: &HostRuntime, test: &[u8], walk: Walk) -> Result<Option<Walk>> {
+    let start = console::front(&walk.prefix, walk.len);
     let mut answer = [0u8; LIST];
-    match bench::search(test, console::front(&start, len), &mut answer, ALLOWANCE) {
+    match bench::search(test, start, &mut answer, ALLOWANCE) {
         Reply::Refused(r) => {
-            let mut ended = walk;
-            ended.ended = true;
-            ended.lost = words::explained(Line::output(rt), r).end().err();
-            ended
+            words::explained(Line::output(rt), r).end()?;
+            Ok(None)
         }
         Reply::Answered(o) => answered(rt, test, walk, o, answer),
     }
@@ -164,28 +152,23 @@ fn walk_all(rt: &HostRuntime, test: &[u8]) -> Result<()> {
         len: 0,
         witnesses: 0,
         visited: 0,
-        ended: false,
-        lost: None,
     };
-    let mut calls: u64 = 0;
-    while calls < u64::MAX && !walk.ended {
-        walk = call(rt, test, walk);
-        calls += 1;
+    for calls in 0..u64::MAX {
+        match call(rt, test, walk)? {
+            Some(next) => walk = next,
+            None => break,
+        }
     }
-    match walk.lost {
-        Some(e) => Err(e),
-        None => Ok(()),
-    }
+    Ok(())
 }
 
 fn witnesses(rt: &HostRuntime) {
     let mut buffer = [0u8; INPUT];
     match console::fill(rt, &mut buffer) {
-        Filled::Failed(e) => console::input_failed(rt, b"witnesses", e),
-        Filled::Bytes(n) => {
-            if n == 0 {
-                usage(rt);
-            } else if let Err(e) = walk_all(rt, console::front(&buffer, n)) {
+        Err(e) => console::input_failed(rt, b"witnesses", e),
+        Ok(0) => usage(rt),
+        Ok(n) => {
+            if let Err(e) = walk_all(rt, console::front(&buffer, n)) {
                 console::output_failed(rt, b"witnesses", e);
             }
         }

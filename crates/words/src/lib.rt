@@ -61,10 +61,10 @@ the second writes, and the address of an event between them depends on the first
 
 // A refusal's number, and its record where it names one. `None` is no refusal, and no entry says that it refuses by it.
 pub fn refused(line: Line, r: Refusal) -> Line {
+    let said = line.item(b"refused ", number(r));
     match r {
-        Refusal::None => line.item(b"refused ", 0),
-        Refusal::Line(n) => line.item(b"refused ", n),
-        Refusal::Record(n, k) => line.item(b"refused ", n).item(b", record ", k.0),
+        Refusal::Record(_, k) => said.item(b", record ", k.0),
+        _ => said,
     }
 }
 

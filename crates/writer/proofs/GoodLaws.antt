@@ -13,7 +13,7 @@ use Rattle.masks.proofs.SubsetLaws.{past-limit}
 use Rattle.edition.specs.Limits.{one, max_locations, most_events}
 use Rattle.table.specs.declared.Event.{Event}
 use Rattle.table.specs.declared.Table.{Table}
-use Rattle.table.specs.Events.{capacity, no_event, event, hart, kind, po}
+use Rattle.table.specs.Events.{capacity, no_event, event, po}
 use Rattle.table.proofs.SameFields.{event-same}
 use Rattle.refusals.specs.Lines.{accepted, first_line}
 use Rattle.refusals.specs.TableLines.{blank, line6, initial_not_zero, final_not_zero, past_not_blank, line7, line9, names, names_wrongly, data_of_non_writer, lacks_control, table_lines}

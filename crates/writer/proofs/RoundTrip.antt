@@ -6,7 +6,7 @@ use mathlib.Core.List.{List}
 use lib.ListN.{length}
 use native.Mathlib.Omega.{arith}
 use borrow.Author.Tests.{eq-eqb, eqb-true, not-false, le-ltb}
-use Rattle.edition.specs.Limits.{Edition, one, edition_number, block_length, most_events}
+use Rattle.edition.specs.Limits.{one, edition_number, block_length, most_events}
 use Rattle.table.specs.declared.Table.{Table}
 use Rattle.decode.specs.Layout.{byte_at, edition_at, edition_of}
 use Rattle.decode.specs.Decoded.{decoded_as, decoded}
@@ -14,7 +14,7 @@ use Rattle.refusals.specs.Lines.{Refused, accepted, first_line, unless}
 use Rattle.refusals.specs.TableLines.{table_lines}
 use Rattle.refusals.proofs.LineLaws.{whole-next, whole-off}
 use Rattle.zero_bytes.specs.ZeroBytes.{bytes_not_zero}
-use Rattle.block.specs.Reading.{line1, line2, line3, length_wrong, header_lines, length_lines, edition_lines, edition_refusal, reading_lines, read_refusal, read_table, no_table}
+use Rattle.block.specs.Reading.{line2, line3, length_wrong, length_lines, edition_lines, edition_refusal, read_refusal, read_table, no_table}
 use Rattle.block.proofs.ReadingLaws.{states, no-later, edition-decides, as_one}
 use Rattle.encode.specs.Encoded.{encoded}
 use Rattle.writer.specs.Writing.{buffer_wrong, writing_lines, write_refusal, written_block}

@@ -10,18 +10,6 @@ use edition::EditionOne;
 use refusals::Refusal;
 use table::Table;
 
-// Copies a whole block.
-fn copy(block: [u8; EditionOne::BLOCK], out: &mut [u8])
-    requires { length out.old ≡ block_length }
-    ensures { out.new ≡ block }
-{
-    let mut i: usize = 0;
-    while i < EditionOne::BLOCK {
-        out[i] = block[i];
-        i += 1;
-    }
-}
-
 // Writing to 512 bytes.
 fn write_whole(t: Table, out: &mut [u8]) -> Refusal
     requires { length out.old ≡ block_length }
@@ -31,7 +19,7 @@ fn write_whole(t: Table, out: &mut [u8]) -> Refusal
     let refusal = table_lines::refuse(t, t.stated, EditionOne::EVENTS, false);
     match refusal {
         Refusal::None => {
-            copy(encode::encode(t), out);
+            out.copy_from_slice(&encode::encode(t));
             Refusal::None
         }
         Refusal::Line(n) => Refusal::Line(n),

@@ -32,23 +32,14 @@ const LATER: usize = 480;
 
 const LATER_ZEROS: usize = 28;
 
-// A byte as a number that has room for a sum of them.
-fn wide(b: u8) -> u32
-    ensures { (result ≡ b) × (result ≤ 255) }
-{
-    b as u32
-}
-
 // One of the n bytes from `at` isn't zero. They are added up and not tested one by one: wide registers add many at a time.
 fn some_not_zero(s: &[u8], at: usize, n: usize) -> bool
     requires { (at + n ≤ length s.now) × (n ≤ block_length) }
     ensures { result ≡ some_not_zero s.now at n }
 {
-    let mut sum: u32 = 0;
-    let mut i: usize = 0;
-    while i < n {
-        sum += wide(s[at + i]);
-        i += 1;
+    let mut sum = 0;
+    for b in &s[at..at + n] {
+        sum += u32::from(*b);
     }
     sum != 0
 }
@@ -66,12 +57,10 @@ fn records_not_zero(s: &[u8]) -> bool
     requires { test_length two ≤ length s.now }
     ensures { result ≡ record_zeros s.now }
 {
-    let mut k: usize = 0;
-    while k < EditionTwo::EVENTS {
+    for k in 0..EditionTwo::EVENTS {
         if some_not_zero(s, wide_records::place(k) + RECORD_END, RECORD_ZEROS) {
             return true;
         }
-        k += 1;
     }
     false
 }
@@ -81,12 +70,10 @@ fn later_not_zero(s: &[u8]) -> bool
     requires { test_length two ≤ length s.now }
     ensures { result ≡ later_zeros s.now }
 {
-    let mut b: usize = 0;
-    while b < LATER_BLOCKS {
+    for b in 0..LATER_BLOCKS {
         if some_not_zero(s, EditionOne::BLOCK * (1 + b) + LATER, LATER_ZEROS) {
             return true;
         }
-        b += 1;
     }
     false
 }

@@ -1,4 +1,3 @@
-use Prim.Native.Nat.{◌-◌}
 use native.Mathlib.Omega.{arith}
 use Rattle.table.proofs.EventTests.{of_events}
 use Rattle.masks.proofs.GatherLaws.{gather-start, gather-more, gather-end}

@@ -1,4 +1,3 @@
-use Prim.Native.Nat.{◌-◌}
 use native.Mathlib.Omega.{arith}
 use mathlib.Core.Path.{◌≡◌}
 use lib.ListN.{length}
@@ -20,15 +19,15 @@ pub returns-then-decides : goal.returns-then-decides
 returns-then-decides c = sizes-stop _ _ _ c.loop-size.invariant (omega (arith, count (goal.at.returns-then-decides c).Start))
     c.try_size-said.ensures c.decides.ensures c.if-decides.true
 
-pub overflow_add-size : goal.overflow_add-size
-overflow_add-size c = omega (arith, count (goal.at.overflow_add-size c).Start, c.requires.1)
-
-pub loop-size-smaller : goal.loop-size-smaller
-loop-size-smaller c = omega arith
-
 pub loop-size-preserved : goal.loop-size-preserved
 loop-size-preserved c = sizes-on _ _ _ c.loop-size.invariant (omega (arith, count (goal.at.loop-size-preserved c).Start))
     c.try_size-said.ensures c.decides.ensures c.if-decides.false
 
 pub returns : goal.returns
 returns c = sizes-end _ _ _ c.loop-size.invariant (omega (arith, count (goal.at.returns c).Start))
+
+pub returns-else-decides : goal.returns-else-decides
+returns-else-decides c = sizes-end _ _ _
+    (sizes-on _ _ _ c.loop-size.invariant (omega (arith, count (goal.at.returns-else-decides c).Start))
+    c.try_size-said.ensures c.decides.ensures c.if-decides.false)
+    (omega (arith, count (goal.at.returns-else-decides c).Start))

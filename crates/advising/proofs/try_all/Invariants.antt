@@ -1,4 +1,3 @@
-use Prim.Native.Nat.{suc, ◌-◌}
 use Rattle.advice.specs.Advice.{search_with}
 use Rattle.advising.specs.Chosen.{events_in}
 use Rattle.advising.proofs.TryLaws.{SizesLeft}
@@ -6,6 +5,3 @@ use Rattle.advising.proofs.try_all.Given as goal
 
 abbrev pub invariant-loop-size : goal.invariant-loop-size
 invariant-loop-size l = SizesLeft (search_with l.t l.allowance) (events_in l.fences) l.size
-
-abbrev pub decreases-loop-size : goal.decreases-loop-size
-decreases-loop-size l = suc l.most - l.size

@@ -5,6 +5,3 @@ use Rattle.advising.proofs.try_size.Given as goal
 
 abbrev pub invariant-loop-m : goal.invariant-loop-m
 invariant-loop-m l = MasksLeft (search_with l.t l.allowance) (events_in l.fences) l.size l.m
-
-abbrev pub decreases-loop-m : goal.decreases-loop-m
-decreases-loop-m l = l.m

@@ -1,4 +1,4 @@
-use Prim.Native.Nat.{◌-◌, ◌≤◌}
+use Prim.Native.Nat.{◌≤◌}
 use mathlib.Core.Path.{◌≡◌}
 use lib.ListN.{length, take}
 use Rattle.lists.specs.Lists.{has}
@@ -10,6 +10,3 @@ use Rattle.advising.proofs.with_fences.Given as goal
 
 abbrev pub invariant-loop-k : goal.invariant-loop-k
 invariant-loop-k l = (l.k ≤ capacity) × (length l.events ≡ capacity) × (take l.k l.events ≡ up_to l.k (λ j. turned (has j (events_in l.set)) (event l.t j)))
-
-abbrev pub decreases-loop-k : goal.decreases-loop-k
-decreases-loop-k l = capacity - l.k

@@ -13,12 +13,12 @@ returns-then-order-total c =
 pub returns-then-order_wrong : goal.returns-then-order_wrong
 returns-then-order_wrong c = record { result_value = search (refused-13, rules); out_after = search (left-13, rules) }
 
-pub returns-then-out-t : goal.returns-then-out-t
-returns-then-out-t c =
-    let w = determine-16 c.args.t c.args.order.now c.args.out.now (sym (order-length-wrong _ _ _ c.total.ensures) ∙ ap not (eq-eqb _ _ c.if-order-total.false)) (sym c.order_wrong.ensures ∙ c.if-order_wrong.false) c.if-out-t.true in
+pub returns-then-out-from : goal.returns-then-out-from
+returns-then-out-from c =
+    let w = determine-16 c.args.t c.args.order.now c.args.out.now (sym (order-length-wrong _ _ _ c.total.ensures) ∙ ap not (eq-eqb _ _ c.if-order-total.false)) (sym c.order_wrong.ensures ∙ c.if-order_wrong.false) (rw c.from.ensures at c.if-out-from.true) in
     record { result_value = w.0; out_after = w.1 }
 
 pub returns : goal.returns
 returns c =
-    let w = determine-none c.args.t c.args.order.now c.args.out.now (sym (order-length-wrong _ _ _ c.total.ensures) ∙ ap not (eq-eqb _ _ c.if-order-total.false)) (sym c.order_wrong.ensures ∙ c.if-order_wrong.false) c.if-out-t.false _ c.determine.ensures in
+    let w = determine-none c.args.t c.args.order.now c.args.out.now (sym (order-length-wrong _ _ _ c.total.ensures) ∙ ap not (eq-eqb _ _ c.if-order-total.false)) (sym c.order_wrong.ensures ∙ c.if-order_wrong.false) (rw c.from.ensures at c.if-out-from.false) _ c.determine.ensures in
     record { result_value = w.0; out_after = w.1 }

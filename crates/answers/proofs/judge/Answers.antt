@@ -6,24 +6,24 @@ use Rattle.answers.proofs.judge.Goals as goal
 
 pub returns-then-order-total : goal.returns-then-order-total
 unfolding returned_length_wrong
-returns-then-order-total c = judge-12 _ _ _ (rw (order-length-wrong _ _ _ c.total.ensures) at c.if-order-total.true)
+returns-then-order-total c = judge-12 _ _ _ (rw (order-length-wrong _ _ _ c.total.ensures, c.from.ensures) at c.if-order-total.true)
 
 pub returns-then-order_wrong : goal.returns-then-order_wrong
 unfolding returned_length_wrong
-returns-then-order_wrong c = judge-13 _ _ _ (rw (order-length-wrong _ _ _ c.total.ensures) at c.if-order-total.false) (sym c.order_wrong.ensures ∙ c.if-order_wrong.true)
+returns-then-order_wrong c = judge-13 _ _ _ (rw (order-length-wrong _ _ _ c.total.ensures, c.from.ensures) at c.if-order-total.false) (sym c.order_wrong.ensures ∙ c.if-order_wrong.true)
 
 pub returned_wrong-requires : goal.returned_wrong-requires
 unfolding returned_length_wrong
-returned_wrong-requires c = (omega (arith, c.requires.events), returned-length _ c.args.returned.now _ (rw (order-length-wrong _ _ _ c.total.ensures) at c.if-order-total.false))
+returned_wrong-requires c = (omega (arith, c.requires.events), returned-length _ c.args.returned.now _ (rw (order-length-wrong _ _ _ c.total.ensures, c.from.ensures) at c.if-order-total.false))
 
 pub returns-then-returned_wrong : goal.returns-then-returned_wrong
 unfolding returned_length_wrong
-returns-then-returned_wrong c = judge-14 _ _ _ (rw (order-length-wrong _ _ _ c.total.ensures) at c.if-order-total.false) (sym c.order_wrong.ensures ∙ c.if-order_wrong.false) (sym c.returned_wrong.ensures ∙ c.if-returned_wrong.true)
+returns-then-returned_wrong c = judge-14 _ _ _ (rw (order-length-wrong _ _ _ c.total.ensures, c.from.ensures) at c.if-order-total.false) (sym c.order_wrong.ensures ∙ c.if-order_wrong.false) (sym c.returned_wrong.ensures ∙ c.if-returned_wrong.true)
 
 pub judge-requires : goal.judge-requires
 unfolding returned_length_wrong
-judge-requires c = (omega (arith, c.requires.events), c.requires.locations, returned-length _ c.args.returned.now _ (rw (order-length-wrong _ _ _ c.total.ensures) at c.if-order-total.false))
+judge-requires c = (omega (arith, c.requires.events), c.requires.locations, returned-length _ c.args.returned.now _ (rw (order-length-wrong _ _ _ c.total.ensures, c.from.ensures) at c.if-order-total.false))
 
 pub returns : goal.returns
 unfolding returned_length_wrong
-returns c = judge-none _ _ _ (rw (order-length-wrong _ _ _ c.total.ensures) at c.if-order-total.false) (sym c.order_wrong.ensures ∙ c.if-order_wrong.false) (sym c.returned_wrong.ensures ∙ c.if-returned_wrong.false) _ c.judge.ensures
+returns c = judge-none _ _ _ (rw (order-length-wrong _ _ _ c.total.ensures, c.from.ensures) at c.if-order-total.false) (sym c.order_wrong.ensures ∙ c.if-order_wrong.false) (sym c.returned_wrong.ensures ∙ c.if-returned_wrong.false) _ c.judge.ensures

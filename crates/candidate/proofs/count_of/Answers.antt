@@ -1,23 +1,15 @@
-use Prim.Native.Nat.{◌-◌}
-use mathlib.Core.Path.{refl, ap, sym, ◌∙◌}
-use native.Mathlib.Omega.{arith}
-use lib.Seq.{take_all}
-use Rattle.lists.proofs.TakeLaws.{count-more}
+use Prim.Native.Nat.{ℕ}
+use mathlib.Core.Bool.{cond}
+use mathlib.Core.Path.{◌≡◌, refl, sym, ◌∙◌}
+use lib.Dec.{eqb}
+use borrow.Author.Rules.{rules}
+use Rattle.std.specs.List.{count_by}
+use Rattle.std.proofs.lemmas.List.Recursion.{is_sum_by}
 use Rattle.lists.specs.Lists.{count}
 use Rattle.candidate.proofs.count_of.Goals as goal
 
-pub loop-i-init : goal.loop-i-init
-loop-i-init c = (omega arith, refl, omega arith)
-
-pub overflow_add-n : goal.overflow_add-n
-overflow_add-n c = omega (arith, c.same-n.ensures.1)
-
-pub loop-i-preserved : goal.loop-i-preserved
-loop-i-preserved c = (
-  omega arith,
-  rw (c.loop-i.invariant.1, c.same-n.ensures.0) (sym (count-more _ c.args.gmo.now c.loop-i.i (omega arith))),
-  omega (arith, c.same-n.ensures.1),
-)
-
 pub returns : goal.returns
-returns c = c.loop-i.invariant.1 ∙ ap (count c.args.e.0) (take_all c.loop-i.i c.args.gmo.now (omega arith))
+returns c = let e = c.args.e.0 in
+    let l = c.args.gmo.now in
+    let counted : c.count.result ≡ count_by (eqb e) l = search rules in
+    counted ∙ sym (is_sum_by (count e) (λ (x : ℕ). cond (eqb e x) 1 0) refl (λ _ _. refl) l)

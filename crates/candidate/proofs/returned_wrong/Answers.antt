@@ -1,5 +1,4 @@
 use Rattle.candidate.specs.CandidateLines.{returned_wrong, entry_wrong}
-use Prim.Native.Nat.{◌-◌}
 use mathlib.Core.Path.{sym}
 use native.Mathlib.Omega.{arith}
 use Rattle.lists.proofs.ScanLaws.{scan-start, scan-more, some-hit, some_end}

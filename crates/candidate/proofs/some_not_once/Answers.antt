@@ -1,5 +1,4 @@
 use Rattle.table.specs.Events.{memory, reads, writes, kind, event}
-use Prim.Native.Nat.{◌-◌}
 use mathlib.Core.Path.{sym}
 use native.Mathlib.Omega.{arith}
 use Rattle.lists.proofs.ScanLaws.{scan-start, scan-more, some-hit, some_end}

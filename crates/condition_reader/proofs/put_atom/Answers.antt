@@ -1,38 +1,33 @@
-use mathlib.Core.Path.{subst}
-use Prim.Native.Nat.{◌<◌}
 use native.Mathlib.Omega.{arith}
-use Rattle.condition_reader.specs.Steps.{Inside, Fed}
-use Rattle.condition_reader.proofs.StepLaws.{stopped}
-use Rattle.condition_reader.proofs.AtomLaws.{atom-bad, atom-on}
+use mathlib.Core.Path.{◌∙◌}
+use Prim.Native.Nat.{◌<◌}
+use lib.ListN.{length}
+use Rattle.condition_reader.specs.Words.{atom_of}
+use borrow.Author.Rules.{rules}
+use Rattle.std.specs.Prelude.{Err}
+use Rattle.condition_reader.specs.Steps.{Goes, lettered}
+use Rattle.condition_reader.proofs.AtomLaws.{lettered-at, put-node}
 use Rattle.condition_reader.proofs.put_atom.Goals as goal
-use Rattle.condition_reader.proofs.put_atom.Goals.{In-Got}
 
--- four bytes were read for the word: there is room for it
-room : (c : In-Got) → c.in-At.len < 512
-room c =
-    let h = c.in-Got.ensures in
-    let f = subst (Fed c.args.text.now) c.in-At.is c.requires.0.fed in
-    omega (arith, h.3, h.4, f, c.requires.0.short, c.requires.0.long)
+pub returns-in_err-atom : goal.returns-in_err-atom
+returns-in_err-atom c =
+    let a = c.args in
+    let q = c.in_err-atom.ensures in
+    let e : Goes a.text.now a.words.now a.words.now (lettered a.returned) a.step (Err c.in_err-atom.field-0.0) =
+    (lettered-at _ _ _ c.requires.1 ∙ q.0, q.1) in
+    search rules
 
-pub read_atom-atom-requires : goal.read_atom-atom-requires
-read_atom-atom-requires c = subst (Inside _) c.in-At.is c.requires.1
-
-pub offset_bounds-words-len : goal.offset_bounds-words-len
-offset_bounds-words-len c = omega (arith, room (goal.at.offset_bounds-words-len c).In-Got, c.requires.0.long)
-
-pub bounds-words-len : goal.bounds-words-len
-bounds-words-len c = omega (arith, room (goal.at.bounds-words-len c).In-Got, c.requires.0.long)
-
-pub overflow_add-result : goal.overflow_add-result
-overflow_add-result c = omega (arith, room (goal.at.overflow_add-result c).In-Got)
-
-pub returns-in-Breach : goal.returns-in-Breach
-returns-in-Breach c = stopped _ _ _ _ _ _ _ _ c.requires.0.fed c.in-Breach.is
-
-pub returns-in-Breach-atom : goal.returns-in-Breach-atom
-returns-in-Breach-atom c = atom-bad _ _ _ _ _ _ c.in-At.is c.requires.1 c.requires.0.long c.requires.0.short c.requires.0.fed _ _
-    c.in-Breach-atom.ensures
-
-pub returns-in-Got : goal.returns-in-Got
-returns-in-Got c = atom-on _ _ _ _ _ _ c.in-At.is c.requires.1 c.requires.0.long c.requires.0.short c.requires.0.fed _ _
-    c.in-Got.ensures
+pub returns : goal.returns
+returns c =
+    let a = c.args in
+    let r = c.requires.0 in
+    let q = c.in_ok-atom.ensures in
+    let p = c.push.ensures in
+    let o = atom_of a.returned q.0 q.1 in
+    let room : a.step.len < length a.words.now = omega (arith, q.3, q.4, r.short, r.long, r.fed) in (
+      o,
+      rw p.1 (lettered-at _ _ _ c.requires.1 ∙ q.2),
+      rw (p.0, p.2) (put-node a.words.now a.step.len c.in_ok-atom.atom.word o room q.5),
+      omega (arith, p.1, q.3),
+      omega (arith, p.1, p.2, q.4),
+    )

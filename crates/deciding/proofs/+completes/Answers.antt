@@ -1,5 +1,5 @@
-use Rattle.deciding.proofs.TryLaws.{told-end, told-known, told-lost, chosen-may, trying_start, lowest}
-use Rattle.deciding.proofs.TryLaws.{lowest-event, lowest-less, lowest-leads, trying-more, none-leads, told-hit}
+use Rattle.deciding.proofs.TryLaws.{told-end, told-known, told-lost, chosen-may, trying_start}
+use Rattle.deciding.proofs.TryLaws.{lowest-event, lowest-leads, trying-more, none-leads, told-hit}
 use Rattle.deciding.proofs.TryLaws.{told_none}
 use mathlib.Core.Path.{refl, subst, ◌∙◌}
 use Rattle.deciding.specs.Deciding.{Completes}
@@ -15,38 +15,34 @@ returns-then-knows t c = told-known c.knows.ensures c.if-knows.true
 pub returns-then-is_lost : goal.returns-then-is_lost
 returns-then-is_lost t c = told-lost c.is_lost.ensures c.if-is_lost.true
 
-pub loop-tries-init : goal.loop-tries-init
-loop-tries-init t c =
+pub loop-e-init : goal.loop-e-init
+loop-e-init t c =
+    rw c.into_iter-e-iterator.ensures.into_iter_gives
     (refl, trying_start c.choice-tries.type_inv (chosen-may c.accepted-can.ensures c.choice-tries.ensures))
 
 pub overflow_cast-e : goal.overflow_cast-e
-overflow_cast-e t c = omega (arith, (lowest c.loop-tries.invariant.1 _ (omega arith) c.lowest_set-e.ensures).0)
+overflow_cast-e t c = let s = c.in-Some.ensures.steps in omega arith
 
 pub step-next-requires : goal.step-next-requires
-step-next-requires t c = lowest-event c.loop-tries.invariant.1 _ (omega arith) c.lowest_set-e.ensures c.requires
+step-next-requires t c =
+    let s = c.in-Some.ensures.steps in lowest-event c.loop-e.invariant.1 _ s.some s.lowest c.requires
 
 pub returns-then-completes : goal.returns-then-completes
 returns-then-completes t c =
-    let g = c.loop-tries.invariant.1 in
+    let g = c.loop-e.invariant.1 in
+    let s = c.in-Some.ensures.steps in
     told-hit g.may
-    (lowest-leads g _ (omega arith) c.lowest_set-e.ensures c.step-next.ensures
+    (lowest-leads g _ s.some s.lowest c.step-next.ensures
     (subst (Completes _ _ _ _ _ _) c.if-completes.true c.completes.ensures))
 
-pub one-tries-requires : goal.one-tries-requires
-one-tries-requires t c = (lowest c.loop-tries.invariant.1 _ (omega arith) c.lowest_set-e.ensures).0
-
-pub loop-tries-smaller : goal.loop-tries-smaller
-loop-tries-smaller t c =
-    lowest-less c.loop-tries.invariant.1 _ (omega arith) c.lowest_set-e.ensures _ c.one-tries.ensures
-
-pub loop-tries-preserved : goal.loop-tries-preserved
-loop-tries-preserved t c = (
-  c.completes.auto.memo ∙ c.loop-tries.invariant.0,
-  trying-more c.loop-tries.invariant.1 _ (omega arith) c.lowest_set-e.ensures c.step-next.ensures _ c.one-tries.ensures
-      (subst (Completes _ _ _ _ _ _) c.if-completes.false c.completes.ensures),
+pub loop-e-preserved : goal.loop-e-preserved
+loop-e-preserved t c = let s = c.in-Some.ensures.steps in (
+  c.completes.auto.memo ∙ c.loop-e.invariant.0,
+  rw s.rest (trying-more c.loop-e.invariant.1 _ s.some s.lowest c.step-next.ensures _ refl
+      (subst (Completes _ _ _ _ _ _) c.if-completes.false c.completes.ensures)),
 )
 
 pub returns : goal.returns
 returns t c =
     told_none c.if-left-eq0.false c.accepted-can.ensures c.choice-tries.ensures
-    (none-leads c.loop-tries.invariant.1 c.loop-tries-test.false) c.store.ensures
+    (none-leads c.loop-e.invariant.1 c.in-None.ensures.steps.0) c.store.ensures

@@ -10,7 +10,7 @@ use Rattle.deciding.proofs.LeadLaws.{leb-suc, past-none}
 use Rattle.deciding.proofs.above.Goals as goal
 
 pub returns-then-x-lt-TOP_BIT : goal.returns-then-x-lt-TOP_BIT
-returns-then-x-lt-TOP_BIT c k = ap (λ (m : ℕ). bit m k) c.from.ensures ∙ bit_high c.args.m _ k ∙ and_comm (leb _ k) _ ∙ ap (λ (b : Bool). bit c.args.m k && b) (leb-suc _ k)
+returns-then-x-lt-TOP_BIT c k = ap (λ (m : ℕ). bit m k) (rw c.from.ensures at c.from-then-x-lt-TOP_BIT.ensures) ∙ bit_high c.args.m _ k ∙ and_comm (leb _ k) _ ∙ ap (λ (b : Bool). bit c.args.m k && b) (leb-suc _ k)
 
 pub returns-else-x-lt-TOP_BIT : goal.returns-else-x-lt-TOP_BIT
 returns-else-x-lt-TOP_BIT c k = bit-zero k ∙ sym (past-none _ _ c.ranges.m.fits (omega arith) k)

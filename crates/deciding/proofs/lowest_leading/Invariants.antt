@@ -3,8 +3,5 @@ use lib.ListN.{length}
 use Rattle.deciding.proofs.TryLaws.{Trying}
 use Rattle.deciding.proofs.lowest_leading.Given as goal
 
-abbrev pub invariant-loop-tries : goal.invariant-loop-tries
-invariant-loop-tries l = (length l.memo ≡ length l.initial.memo) × Trying l.facts l.ties l.s l.left l.events l.initial.memo l.memo l.tries
-
-abbrev pub decreases-loop-tries : goal.decreases-loop-tries
-decreases-loop-tries l = l.tries
+abbrev pub invariant-loop-e : goal.invariant-loop-e
+invariant-loop-e l = (length l.memo ≡ length l.initial.memo) × Trying l.facts l.ties l.s l.left l.events l.initial.memo l.memo l.e-iterator.0

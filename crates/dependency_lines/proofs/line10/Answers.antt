@@ -7,14 +7,14 @@ use Rattle.table.specs.Events.{kind, event, sc}
 use Rattle.refusals.specs.TableLines.{line10}
 use Rattle.dependency_lines.proofs.line10.Goals as goal
 
-pub returns-then-t-k-eq-SC : goal.returns-then-t-k-eq-SC
+pub returns-then-t-from-eq-SC : goal.returns-then-t-from-eq-SC
 unfolding line10 kind event
-returns-then-t-k-eq-SC c = let v = c.args in
-    let e : eqb (kind v.t v.k.0) sc ≡ true = eq-eqb _ _ c.if-t-k-eq-SC.true in
+returns-then-t-from-eq-SC c = let v = c.args in
+    let e : eqb (kind v.t v.k.0) sc ≡ true = eq-eqb _ _ (rw c.from.ensures at c.if-t-from-eq-SC.true) in
     ap not c.some_paired.ensures ∙ and-taken _ _ e
 
-pub returns-else-t-k-eq-SC : goal.returns-else-t-k-eq-SC
+pub returns-else-t-from-eq-SC : goal.returns-else-t-from-eq-SC
 unfolding line10 kind event
-returns-else-t-k-eq-SC c = let v = c.args in
-    let e : eqb (kind v.t v.k.0) sc ≡ false = ne_eqb _ _ c.if-t-k-eq-SC.false in
+returns-else-t-from-eq-SC c = let v = c.args in
+    let e : eqb (kind v.t v.k.0) sc ≡ false = ne_eqb _ _ (rw c.from.ensures at c.if-t-from-eq-SC.false) in
     and_left _ _ e

@@ -7,9 +7,10 @@ use Rattle.dependency_lines.proofs.may_break.Goals as goal
 pub returns : goal.returns
 unfolding may_break
 returns c = let p = c.args.p in
-    ap₂ ◌||◌
+    rw c.from.ensures
+    (ap₂ ◌||◌
     (ap₂ ◌||◌
     (ap₂ ◌||◌ (c.lacks.ensures ∙ ap (λ (x : ℕ). lacking x p.sources) c.named.ensures)
     (ap₂ ◌&&◌ (ap not c.writes.ensures) refl))
     (ap₂ ◌&&◌ c.memory.ensures c.lacks-2.ensures))
-    refl
+    refl)

@@ -4,7 +4,7 @@ use Rattle.dependency_lines.proofs.reserved_after.Goals as goal
 
 pub returns-then-e-eq-LR : goal.returns-then-e-eq-LR
 unfolding reserved_after
-returns-then-e-eq-LR c = rw (eq-eqb _ _ c.if-e-eq-LR.true)
+returns-then-e-eq-LR c = rw (eq-eqb _ _ c.if-e-eq-LR.true, c.from.ensures)
 
 pub returns-then-e-eq-SC : goal.returns-then-e-eq-SC
 unfolding reserved_after

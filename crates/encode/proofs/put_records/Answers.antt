@@ -1,7 +1,7 @@
-use Prim.Native.Nat.{◌-◌}
 use mathlib.Core.Path.{refl}
 use native.Mathlib.Omega.{arith}
-use Rattle.table.specs.Events.{event}
+use lib.Seq.{get_or-take}
+use Rattle.table.specs.Events.{event, no_event}
 use Rattle.encode.proofs.BegunLaws.{begun-record, begun-records, begun-start, length-begun-front}
 use Rattle.encode.proofs.put_records.Goals as goal
 
@@ -17,7 +17,7 @@ pub loop-k-preserved : goal.loop-k-preserved
 unfolding event
 loop-k-preserved c = let v = c.loop-k in
     let a = c.args in
-    (omega arith, omega arith, begun-record a.t v.k v.block c.put_record.new.block (omega arith) v.invariant.2 c.put_record.ensures)
+    (omega arith, omega arith, begun-record a.t v.k v.block c.put_record.new.block (omega arith) v.invariant.2 (rw (get_or-take 16 a.t.events v.k no_event (omega arith)) at c.put_record.ensures))
 
 pub returns : goal.returns
 returns c = let v = c.loop-k in

@@ -1,4 +1,4 @@
-use Prim.Native.Nat.{ℕ, ◌-◌, ◌≤◌}
+use Prim.Native.Nat.{ℕ, ◌≤◌}
 use mathlib.Core.Path.{◌≡◌}
 use mathlib.Core.List.{◌++◌}
 use lib.ListN.{length}
@@ -11,7 +11,4 @@ use Rattle.encode.proofs.put_records.Given as goal
 
 -- `put_records`: the records passed are set, and zeros stand behind them.
 abbrev pub invariant-loop-k : goal.invariant-loop-k
-invariant-loop-k l = (l.k ≤ most_events one) × (length l.block ≡ length l.initial.block) × (l.block ≡ begun (front l.t ++ joined l.k (λ (j : ℕ). record_bytes (event l.t j))))
-
-abbrev pub decreases-loop-k : goal.decreases-loop-k
-decreases-loop-k l = most_events one - l.k
+invariant-loop-k l = (l.k ≤ most_events one) × (length l.block ≡ length l.initial.block) × (l.block ≡ begun (front l.fn.t ++ joined l.k (λ (j : ℕ). record_bytes (event l.fn.t j))))

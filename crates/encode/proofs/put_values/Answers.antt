@@ -1,4 +1,3 @@
-use Prim.Native.Nat.{◌-◌}
 use native.Mathlib.Omega.{arith}
 use borrow.Author.Rules.{rules}
 use Rattle.encode.specs.Encoded.{joined}
@@ -12,7 +11,7 @@ loop-x-init c = search rules
 pub loop-x-preserved : goal.loop-x-preserved
 loop-x-preserved c = let v = c.loop-x in
     let a = c.args in
-    (omega arith, omega arith, values-more a.values a.block.now v.block c.put_word.new.block a.at v.x v.invariant.2 c.put_word.ensures)
+    (omega arith, omega arith, values-more a.values a.block.now v.block c.put_word.new.block a.at v.x v.invariant.2 (rw c.from.ensures at c.put_word.ensures))
 
 pub returns : goal.returns
 returns c = let v = c.loop-x in

@@ -1,6 +1,4 @@
-use Prim.Native.Nat.{◌-◌}
 use mathlib.Core.Path.{sym, ◌∙◌}
-use native.Mathlib.Omega.{arith}
 use Rattle.engine.proofs.LoadLaws.{read_none, read-room, read-unclean, read_more, read_all}
 use Rattle.engine.proofs.load.Goals as goal
 
@@ -13,16 +11,13 @@ returns-then-not-may c = read-unclean c.loop-len.invariant c.loop-len-test.true 
 pub bounds-order-len : goal.bounds-order-len
 bounds-order-len c = read-room c.loop-len.invariant
 
-pub overflow_cast-e : goal.overflow_cast-e
-overflow_cast-e c = omega (arith, c.type_inv.start c.loop-len.len)
-
 pub place-masks-requires : goal.place-masks-requires
 place-masks-requires c = let i = c.loop-len.invariant in
-    (i.tables, i.holds.current, sym c.may.ensures ∙ c.if-not-may.false)
+    (i.tables, i.holds.current, rw c.from.ensures (sym c.may.ensures ∙ c.if-not-may.false))
 
 pub loop-len-preserved : goal.loop-len-preserved
 loop-len-preserved c = read_more c.loop-len.invariant c.loop-len-test.true (sym c.may.ensures ∙ c.if-not-may.false)
-    c.place-masks.ensures.0 c.place-masks.ensures.1
+    (rw c.from.ensures at c.place-masks.ensures.0) c.place-masks.ensures.1
 
 pub returns : goal.returns
 returns c = read_all c.loop-len.invariant c.loop-len-test.false

@@ -1,7 +1,10 @@
-use mathlib.Core.Path.{sym}
+use mathlib.Core.Path.{sym, ◌∙◌}
+use borrow.Author.Tests.{le-ltb}
+use native.Mathlib.Omega.{arith}
 use Rattle.masks.proofs.BitLaws.{bit_past}
 use Rattle.successors.specs.CleanMasks.{slots}
 use Rattle.engine.proofs.may.Goals as goal
 
-pub returns-else-e-lt-SLOTS : goal.returns-else-e-lt-SLOTS
-returns-else-e-lt-SLOTS c = sym (bit_past slots _ _ c.ranges.m.fits c.if-e-lt-SLOTS.false)
+pub returns-else-from-lt-SLOTS : goal.returns-else-from-lt-SLOTS
+returns-else-from-lt-SLOTS c =
+    le-ltb _ _ c.if-from-lt-SLOTS.false ∙ sym (bit_past slots _ _ c.ranges.m.fits (omega arith))

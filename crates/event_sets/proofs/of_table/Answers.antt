@@ -50,12 +50,6 @@ pub bounds-locations-x-in-loop-k : goal.bounds-locations-x-in-loop-k
 unfolding location event
 bounds-locations-x-in-loop-k c = c.requires.each-location c.loop-k.k c.loop-k-test.true
 
-pub overflow_add-k : goal.overflow_add-k
-overflow_add-k c = record { fits = omega (arith, c.loop-k-test.true, c.requires.events) }
-
-pub loop-k-smaller : goal.loop-k-smaller
-loop-k-smaller c = omega (arith, c.loop-k-test.true)
-
 pub loop-k-preserved : goal.loop-k-preserved
 unfolding of_events
 loop-k-preserved c = let t = c.args.t in

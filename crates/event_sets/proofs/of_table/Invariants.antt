@@ -23,6 +23,3 @@ pub record Sorting (t : Table) (k readers writers acquires releases rcscs reserv
 
 abbrev pub invariant-loop-k : goal.invariant-loop-k
 invariant-loop-k l = Sorting l.t l.k l.readers l.writers l.acquires l.releases l.rcscs l.reserving l.harts l.locations
-
-abbrev pub decreases-loop-k : goal.decreases-loop-k
-decreases-loop-k l = l.t.count - l.k

@@ -5,8 +5,5 @@ use Rattle.table.specs.Events.{capacity}
 use Rattle.masks.proofs.PickLaws.{Picked}
 use Rattle.fact_rows.proofs.right_row.Given as goal
 
-abbrev pub invariant-loop-left : goal.invariant-loop-left
-invariant-loop-left l = Picked (λ (k : ℕ). eqb (get_or l.stated k 0) l.value) capacity l.readers l.left l.mask
-
-abbrev pub decreases-loop-left : goal.decreases-loop-left
-decreases-loop-left l = l.left
+abbrev pub invariant-loop-r : goal.invariant-loop-r
+invariant-loop-r l = Picked (λ (k : ℕ). eqb (get_or l.stated k 0) l.value) capacity l.readers l.r-iterator.0 l.mask

@@ -7,6 +7,3 @@ use Rattle.facts.proofs.filled.Given as goal
 
 abbrev pub invariant-loop-e : goal.invariant-loop-e
 invariant-loop-e l = Gathered (λ (k : ℕ). not (eqb (get_or l.rows k 0) 0)) l.count l.e l.mask
-
-abbrev pub decreases-loop-e : goal.decreases-loop-e
-decreases-loop-e l = l.count - l.e

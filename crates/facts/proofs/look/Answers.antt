@@ -53,12 +53,6 @@ bounds-t-k-in-loop-e c = located (goal.at.bounds-t-k-in-loop-e c).In-loop-e
 pub one_if-wrong-requires : goal.one_if-wrong-requires
 one_if-wrong-requires c = omega (arith, few (goal.at.one_if-wrong-requires c).In-loop-e)
 
-pub overflow_add-e : goal.overflow_add-e
-overflow_add-e c = record { fits = omega (arith, few (goal.at.overflow_add-e c).In-loop-e) }
-
-pub loop-e-smaller : goal.loop-e-smaller
-loop-e-smaller c = omega (arith, c.loop-e-test.true)
-
 pub loop-e-preserved : goal.loop-e-preserved
 unfolding of_events good wrong initial_value
 loop-e-preserved c = let v = c.loop-e in

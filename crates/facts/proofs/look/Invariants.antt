@@ -17,6 +17,3 @@ pub record Looking (t : Table) (e : ℕ) (window values : List ℕ) (goods wrong
 
 abbrev pub invariant-loop-e : goal.invariant-loop-e
 invariant-loop-e l = Looking l.t l.e l.window l.values l.good l.wrong
-
-abbrev pub decreases-loop-e : goal.decreases-loop-e
-decreases-loop-e l = l.t.count - l.e

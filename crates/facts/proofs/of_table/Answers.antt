@@ -63,12 +63,6 @@ offset_bounds-peers-k c = record { fits = omega (arith, few (goal.at.offset_boun
 pub bounds-peers-k : goal.bounds-peers-k
 bounds-peers-k c = omega (arith, few (goal.at.bounds-peers-k c).In-loop-e)
 
-pub overflow_add-e : goal.overflow_add-e
-overflow_add-e c = record { fits = omega (arith, few (goal.at.overflow_add-e c).In-loop-e) }
-
-pub loop-e-smaller : goal.loop-e-smaller
-loop-e-smaller c = omega (arith, c.loop-e-test.true)
-
 pub loop-e-preserved : goal.loop-e-preserved
 unfolding event
 loop-e-preserved c = let t = c.args.t in

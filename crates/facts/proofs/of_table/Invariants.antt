@@ -18,6 +18,3 @@ pub record Filling (t : Table) (e : ℕ) (ownRows needsRows groundRows guardsRow
 
 abbrev pub invariant-loop-e : goal.invariant-loop-e
 invariant-loop-e l = Filling l.t l.e l.own l.needs l.ground l.guards l.here l.right l.peers
-
-abbrev pub decreases-loop-e : goal.decreases-loop-e
-decreases-loop-e l = l.t.count - l.e

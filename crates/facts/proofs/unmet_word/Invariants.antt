@@ -5,6 +5,3 @@ use Rattle.facts.proofs.unmet_word.Given as goal
 
 abbrev pub invariant-loop-x : goal.invariant-loop-x
 invariant-loop-x l = Gathered (unmet l.t) l.t.locations l.x l.mask
-
-abbrev pub decreases-loop-x : goal.decreases-loop-x
-decreases-loop-x l = l.t.locations - l.x

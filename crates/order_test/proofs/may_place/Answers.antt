@@ -5,4 +5,4 @@ pub returns-then-may_read : goal.returns-then-may_read
 returns-then-may_read c = tell-place _ _ _ _ _ c.may_read.ensures c.may_write.ensures c.if-may_read.true
 
 pub returns-else-may_read : goal.returns-else-may_read
-returns-else-may_read c = tell-barred _ _ _ _ c.may_read.ensures c.if-may_read.false
+returns-else-may_read c = rw c.if-may_read.false (tell-barred _ _ _ _ c.may_read.ensures c.if-may_read.false)

@@ -1,16 +1,16 @@
 use Prim.Native.Nat.{◌<◌}
 use native.Mathlib.Omega.{arith}
-use lib.ListN.{get_or}
+use lib.ListN.{get_or, take, length-take}
 use Rattle.table.specs.Events.{capacity}
-use Rattle.order_test.proofs.PassLaws.{entry-room}
+use Rattle.order_test.proofs.PassLaws.{item-room}
 use Rattle.order_values.proofs.WordLaws.{fitting-first}
 use Rattle.order_values.proofs.AlongLaws.{along-start, along-none, along-end, along-more}
 use Rattle.order_values.proofs.left_values.Goals as goal
 use Rattle.order_values.proofs.left_values.Goals.{In-loop-i}
 
 -- entry i, which is told, has room in a mask
-room : (c : In-loop-i) → get_or c.args.order.now c.loop-i.i 0 < capacity
-room c = entry-room c.args.facts.now c.args.order.now c.args.len c.requires _ c.loop-i-test.true
+room : (c : In-loop-i) → get_or (take c.args.len c.args.order.now) c.loop-i.i 0 < capacity
+room c = item-room c.args.facts.now c.args.order.now c.args.len c.requires _ c.loop-i-test.true
 
 pub returns-then-facts-eq0 : goal.returns-then-facts-eq0
 returns-then-facts-eq0 c = along-none c.args.facts.now c.args.order.now c.args.len c.if-facts-eq0.true
@@ -19,13 +19,7 @@ pub loop-i-init : goal.loop-i-init
 loop-i-init c = along-start c.args.facts.now c.args.order.now c.args.len
 
 pub left_by-requires : goal.left_by-requires
-left_by-requires c = (fitting-first c.args.order.now c.args.len _ c.requires (omega (arith, c.loop-i-test.true)), room (goal.at.left_by-requires c).In-loop-i)
-
-pub overflow_cast-left : goal.overflow_cast-left
-overflow_cast-left c = omega (arith, room (goal.at.overflow_cast-left c).In-loop-i)
-
-pub offset_bounds-left-e : goal.offset_bounds-left-e
-offset_bounds-left-e c = record { fits = omega (arith, room (goal.at.offset_bounds-left-e c).In-loop-i) }
+left_by-requires c = (fitting-first c.args.order.now c.args.len _ c.requires (omega (arith, c.loop-i-test.true, length-take c.args.len c.args.order.now)), room (goal.at.left_by-requires c).In-loop-i)
 
 pub bounds-left-e : goal.bounds-left-e
 bounds-left-e c = room (goal.at.bounds-left-e c).In-loop-i
@@ -36,4 +30,4 @@ loop-i-preserved c = let v = c.loop-i in
 
 pub returns : goal.returns
 returns c = let v = c.loop-i in
-    along-end c.args.facts.now c.args.order.now c.args.len v.i v.left (omega arith) v.invariant
+    along-end c.args.facts.now c.args.order.now c.args.len v.i v.left (omega (arith, length-take c.args.len c.args.order.now)) v.invariant

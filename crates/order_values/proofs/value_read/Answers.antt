@@ -35,17 +35,8 @@ returns-then-w-e c = record {
   depth_le_capacity = omega (arith, c.loop-i.invariant.within, c.loop-i-test.true, c.requires.0.within);
 }
 
-pub overflow_cast-w : goal.overflow_cast-w
-overflow_cast-w c = omega (arith, room (goal.at.overflow_cast-w c).In-loop-i)
-
 pub has-requires : goal.has-requires
-has-requires c = room (goal.at.has-requires c).In-loop-i
-
-pub overflow_cast-result : goal.overflow_cast-result
-overflow_cast-result c = omega (arith, room (goal.at.overflow_cast-result c).In-loop-i)
-
-pub offset_bounds-left-w : goal.offset_bounds-left-w
-offset_bounds-left-w c = record { fits = omega (arith, room (goal.at.offset_bounds-left-w c).In-loop-i) }
+has-requires c = rw c.from.ensures (room (goal.at.has-requires c).In-loop-i)
 
 pub bounds-left-w : goal.bounds-left-w
 bounds-left-w c = room (goal.at.bounds-left-w c).In-loop-i
@@ -53,13 +44,13 @@ bounds-left-w c = room (goal.at.bounds-left-w c).In-loop-i
 pub returns-then-has : goal.returns-then-has
 returns-then-has c = record {
   reads_by = read-hit c.args.facts.now c.args.left.now c.args.order.now c.args.len c.args.e c.requires.0 _ c.loop-i.invariant c.loop-i-test.true
-      (ne_eqb _ _ c.if-w-e.false) (sym c.has.ensures ∙ c.if-has.true);
+      (ne_eqb _ _ c.if-w-e.false) (rw c.from.ensures at (sym c.has.ensures ∙ c.if-has.true));
   depth_le_capacity = c.requires.0.within;
 }
 
 pub loop-i-preserved : goal.loop-i-preserved
 loop-i-preserved c = read_more c.args.facts.now c.args.left.now c.args.order.now c.args.len c.args.e c.requires.0 _ c.loop-i.invariant c.loop-i-test.true
-    (ne_eqb _ _ c.if-w-e.false) (sym c.has.ensures ∙ c.if-has.false)
+    (ne_eqb _ _ c.if-w-e.false) (rw c.from.ensures at (sym c.has.ensures ∙ c.if-has.false))
 
 pub returns : goal.returns
 returns c = record { reads_by = read_none c.args.facts.now c.args.left.now c.args.order.now c.args.len c.args.e c.requires.0 _ c.loop-i.invariant (omega arith) _ c.place-x.ensures.0; depth_le_capacity = c.requires.0.within }

@@ -15,7 +15,7 @@ module _ (d : After-is_no_outcome) where
       width_is d.args.t _ _ (ap (λ (s : Sets). s.readers) d.of_table-s.ensures) d.values_of-values.ensures
 
   wrong : d.is_no_outcome.result ≡ previous_wrong d.args.t d.args.previous.now
-  wrong = previous-is d.args.t 0 _ [] 0 _ width d.is_no_outcome.result d.is_no_outcome.ensures
+  wrong = previous-is d.args.t 0 _ [] 0 _ width d.is_no_outcome.result (rw d.from-width.ensures at d.is_no_outcome.ensures)
 
 pub returns-then-is_no_outcome : goal.returns-then-is_no_outcome
 returns-then-is_no_outcome c =
@@ -34,12 +34,12 @@ returns-then-allowance-gt-ALLOWANCE c =
 
 pub deliver-requires : goal.deliver-requires
 deliver-requires c = let g = c.gather_of-gathered.ensures.within in
-    room_fits _ _ _ _ _ _ c.gather_of-gathered.result c.fewer.ensures (omega (arith, width (goal.at.deliver-requires c).After-is_no_outcome, width_small _ c.requires.0.small)) c.requires.2
+    room_fits _ _ _ _ _ _ c.gather_of-gathered.result (rw c.from-width.ensures at c.min.ensures) (omega (arith, width (goal.at.deliver-requires c).After-is_no_outcome, width_small _ c.requires.0.small)) c.requires.2
     (omega (arith, g.1)) g.0
 
 pub returns : goal.returns
 returns c = let g = c.gather_of-gathered in
     let w = listing-replied c.args.t c.args.most c.args.previous.now c.args.out.now c.args.allowance (sym (wrong (goal.at.returns c).After-is_no_outcome) ∙ c.if-is_no_outcome.false) (omega (arith, c.if-out-width.false, width (goal.at.returns c).After-is_no_outcome)) c.if-allowance-gt-ALLOWANCE.false _
-    (listing-is c.args.t _ _ _ _ _ _ g.result _ (width (goal.at.returns c).After-is_no_outcome) c.fewer.ensures g.ensures.gathers) c.deliver.result _
+    (listing-is c.args.t _ _ _ _ _ _ g.result _ (width (goal.at.returns c).After-is_no_outcome) (rw c.from-width.ensures at c.min.ensures) g.ensures.gathers) c.deliver.result _
     (c.deliver.ensures.out_after, (c.deliver.ensures.out_after_2, c.deliver.ensures.result_value)) in
     record { out_after = w.0; out_after_2 = w.1.0; result_value = w.1.1 }

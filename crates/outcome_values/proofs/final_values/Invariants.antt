@@ -1,9 +1,5 @@
-use Prim.Native.Nat.{◌-◌}
 use Rattle.outcome_values.proofs.LocationLaws.{Told}
 use Rattle.outcome_values.proofs.final_values.Given as goal
 
 abbrev pub invariant-loop-x : goal.invariant-loop-x
 invariant-loop-x l = Told l.at l.locations l.n l.initial.values l.x l.values
-
-abbrev pub decreases-loop-x : goal.decreases-loop-x
-decreases-loop-x l = l.locations - l.x

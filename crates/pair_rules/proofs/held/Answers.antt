@@ -6,8 +6,8 @@ use native.Mathlib.Omega.{arith}
 use mathlib.Core.Path.{sym, ap, ◌∙◌}
 use Rattle.pair_rules.proofs.held.Goals as goal
 
-pub returns-then-b-t : goal.returns-then-b-t
-returns-then-b-t c = pair-past _ _ _ _ c.if-b-t.true
+pub returns-then-b-from : goal.returns-then-b-from
+returns-then-b-from c = pair-past _ _ _ _ (rw c.from.ensures at c.if-b-from.true)
 
 pub returns-then-a-b : goal.returns-then-a-b
 returns-then-a-b c = pair-late _ _ _ _ c.if-a-b.true

@@ -8,6 +8,3 @@ use Rattle.precedence.proofs.predecessors.Given as goal
 
 abbrev pub invariant-loop-b : goal.invariant-loop-b
 invariant-loop-b l = Padded (predecessor_mask l.t) slots l.t.count l.b l.rows × (l.p ≡ passed_at l.t l.b)
-
-abbrev pub decreases-loop-b : goal.decreases-loop-b
-decreases-loop-b l = l.t.count - l.b

@@ -1,33 +1,19 @@
 use mathlib.Core.Path.{sym, ◌∙◌}
 use Rattle.successors.specs.CleanMasks.{ready}
-use Rattle.successors.proofs.SiftLaws.{sift-start, taken, sift-less, sift-take, sift-skip, sift-end}
-use borrow.Author.Rules.{rules}
+use Rattle.successors.proofs.SiftLaws.{sift-start, sift-take, sift-skip, sift-end}
 use Rattle.ready_events.proofs.ready_of.Goals as goal
 
-pub loop-left-init : goal.loop-left-init
-loop-left-init c = sift-start _ (search rules)
+pub loop-k-init : goal.loop-k-init
+loop-k-init c = rw c.into_iter-k-iterator.ensures.into_iter_gives (sift-start _ c.ranges.rest.fits)
 
-pub one-b-requires : goal.one-b-requires
-one-b-requires c = (taken c.loop-left.invariant c.loop-left-test.true c.lowest_set-k.ensures).0
-
-pub bounds-pred-k : goal.bounds-pred-k
-bounds-pred-k c = (taken c.loop-left.invariant c.loop-left-test.true c.lowest_set-k.ensures).0
-
-pub loop-left-smaller-then-within : goal.loop-left-smaller-then-within
-loop-left-smaller-then-within c = sift-less c.loop-left.invariant c.loop-left-test.true c.lowest_set-k.ensures c.one-b.ensures
-
-pub loop-left-preserved-then-within : goal.loop-left-preserved-then-within
+pub loop-k-preserved-then-within : goal.loop-k-preserved-then-within
 unfolding ready
-loop-left-preserved-then-within c = sift-take c.loop-left.invariant c.loop-left-test.true c.lowest_set-k.ensures c.one-b.ensures
+loop-k-preserved-then-within c = sift-take c.loop-k.invariant c.in-Some.ensures.steps c.one-found.ensures
     (sym c.within.ensures ∙ c.if-within.true)
 
-pub loop-left-smaller : goal.loop-left-smaller
-loop-left-smaller c = sift-less c.loop-left.invariant c.loop-left-test.true c.lowest_set-k.ensures c.one-b.ensures
-
-pub loop-left-preserved : goal.loop-left-preserved
+pub loop-k-preserved : goal.loop-k-preserved
 unfolding ready
-loop-left-preserved c = sift-skip c.loop-left.invariant c.loop-left-test.true c.lowest_set-k.ensures c.one-b.ensures
-    (sym c.within.ensures ∙ c.if-within.false)
+loop-k-preserved c = sift-skip c.loop-k.invariant c.in-Some.ensures.steps (sym c.within.ensures ∙ c.if-within.false)
 
 pub returns : goal.returns
-returns c = sift-end c.loop-left.invariant c.loop-left-test.false
+returns c = sift-end c.loop-k.invariant c.in-None.ensures.steps.0

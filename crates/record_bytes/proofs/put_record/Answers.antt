@@ -16,7 +16,7 @@ returns c = let a = c.args in
     let read = c.put_word in
     let written = c.put_word-2 in
     let two-parts = masks.ensures ∙ sets_more (code_bytes e) (mask_bytes e) l codes.new.block a.at (a.at + 4) codes.ensures (omega arith) in
-    let three-parts = read.ensures ∙ sets_more (code_bytes e ++ mask_bytes e) (two e.read) l masks.new.block a.at (a.at + 10) two-parts (omega arith) in
-    let four-parts = written.ensures ∙ sets_more (code_bytes e ++ mask_bytes e ++ two e.read) (two e.written) l read.new.block a.at (a.at + 12) three-parts (omega arith) in
+    let three-parts = (rw c.from.ensures at read.ensures) ∙ sets_more (code_bytes e ++ mask_bytes e) (two e.read) l masks.new.block a.at (a.at + 10) two-parts (omega arith) in
+    let four-parts = (rw c.from-2.ensures at written.ensures) ∙ sets_more (code_bytes e ++ mask_bytes e ++ two e.read) (two e.written) l read.new.block a.at (a.at + 12) three-parts (omega arith) in
     c.put_operation.ensures
     ∙ sets_more (code_bytes e ++ mask_bytes e ++ two e.read ++ two e.written) (operation_bytes e) l written.new.block a.at (a.at + 14) four-parts (omega arith)

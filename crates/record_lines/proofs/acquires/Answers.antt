@@ -3,4 +3,4 @@ use mathlib.Core.Bool.{◌||◌}
 use Rattle.record_lines.proofs.acquires.Goals as goal
 
 pub returns : goal.returns
-returns c = ap₂ ◌||◌ c.has.ensures c.has-2.ensures
+returns c = rw (c.from.ensures, c.from-2.ensures) at (ap₂ ◌||◌ c.has.ensures c.has-2.ensures)

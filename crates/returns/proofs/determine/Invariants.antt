@@ -8,6 +8,3 @@ use Rattle.returns.proofs.determine.Given as goal
 
 abbrev pub invariant-loop-e : goal.invariant-loop-e
 invariant-loop-e l = (l.e ≤ l.t.count) × (length l.out ≡ length l.initial.out) × (l.out ≡ up_to l.e (model.return_entry l.t l.gmo) ++ drop l.e l.initial.out)
-
-abbrev pub decreases-loop-e : goal.decreases-loop-e
-decreases-loop-e l = l.t.count - l.e

@@ -5,8 +5,5 @@ use Rattle.returns.specs.Writers.{writes_to}
 use Rattle.lists.proofs.LastLaws.{LastSoFar}
 use Rattle.returns.proofs.last_writer.Given as goal
 
-abbrev pub invariant-loop-i : goal.invariant-loop-i
-invariant-loop-i l = LastSoFar (writes_to l.t l.x.0) initially l.gmo l.latest l.i
-
-abbrev pub decreases-loop-i : goal.decreases-loop-i
-decreases-loop-i l = length l.gmo - l.i
+abbrev pub invariant-loop-w : goal.invariant-loop-w
+invariant-loop-w l = LastSoFar (writes_to l.t l.x.0) initially l.gmo l.latest l.w-index

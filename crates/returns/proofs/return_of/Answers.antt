@@ -9,25 +9,25 @@ use Rattle.returns.proofs.ReturnLaws.{past-slots}
 use Rattle.returns.proofs.return_of.Goals as goal
 use Rattle.returns.proofs.return_of.Goals.{then-visible, else-visible}
 
-pub loop-i-init : goal.loop-i-init
-loop-i-init c = (omega arith, refl)
+pub loop-w-init : goal.loop-w-init
+loop-w-init c = (omega arith, refl)
 
 pub overflow_cast-w : goal.overflow_cast-w
-overflow_cast-w c = omega (arith, c.type_inv.gmo c.loop-i.i)
+overflow_cast-w c = omega (arith, c.type_inv.gmo c.loop-w.w-index)
 
-pub loop-i-preserved-then-w-ge-CAPACITY : goal.loop-i-preserved-then-w-ge-CAPACITY
-loop-i-preserved-then-w-ge-CAPACITY c = let v = c.loop-i in
+pub loop-w-preserved-then-w-ge-CAPACITY : goal.loop-w-preserved-then-w-ge-CAPACITY
+loop-w-preserved-then-w-ge-CAPACITY c = let v = c.loop-w in
     let slots : length c.args.t.events ≡ 32 = c.well_formed.0.1.1.1.1.1.1.1.1.0.1.0.1 in
-    (omega arith, v.invariant.1 ∙ last-skip _ v.latest _ v.i (omega arith) refl (past-slots _ _ _ _ (omega arith)))
+    (omega arith, v.invariant.1 ∙ last-skip _ v.latest _ v.w-index (omega arith) refl (past-slots _ _ _ _ (omega arith)))
 
-pub loop-i-preserved : goal.loop-i-preserved
+pub loop-w-preserved : goal.loop-w-preserved
 unfolding visible writes kind same_location location po hart event
-loop-i-preserved c = let v = c.loop-i in (
+loop-w-preserved c = let v = c.loop-w in (
   omega arith,
-  v.invariant.1 ∙ elim c.if-visible.branch [ then-visible w ↦ rw w.latest-is (last-hit _ v.latest _ v.i (omega arith) c.visible.ensures w.if-visible.true) | else-visible w ↦ rw w.latest-is (last-skip _ v.latest _ v.i (omega arith) c.visible.ensures w.if-visible.false) ],
+  v.invariant.1 ∙ elim c.if-visible.branch [ then-visible w ↦ rw w.latest-is (last-hit _ v.latest _ v.w-index (omega arith) c.visible.ensures w.if-visible.true) | else-visible w ↦ rw w.latest-is (last-skip _ v.latest _ v.w-index (omega arith) c.visible.ensures w.if-visible.false) ],
 )
 
 pub returns : goal.returns
 unfolding return_of
-returns c = let v = c.loop-i in
-    sym (v.invariant.1 ∙ last_end _ v.latest _ v.i (omega arith))
+returns c = let v = c.loop-w in
+    sym (v.invariant.1 ∙ last_end _ v.latest _ v.w-index (omega arith))

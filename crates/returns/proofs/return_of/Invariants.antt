@@ -5,8 +5,5 @@ use Rattle.model.specs.Returns.{visible}
 use Rattle.lists.proofs.LastLaws.{LastSoFar}
 use Rattle.returns.proofs.return_of.Given as goal
 
-abbrev pub invariant-loop-i : goal.invariant-loop-i
-invariant-loop-i l = LastSoFar (visible l.t l.gmo l.r.0) initially l.gmo l.latest l.i
-
-abbrev pub decreases-loop-i : goal.decreases-loop-i
-decreases-loop-i l = length l.gmo - l.i
+abbrev pub invariant-loop-w : goal.invariant-loop-w
+invariant-loop-w l = LastSoFar (visible l.t l.gmo l.r.0) initially l.gmo l.latest l.w-index

@@ -20,7 +20,7 @@ overflow_add-set c = let held = c.args.held in
 
 pub loop-k-preserved : goal.loop-k-preserved
 loop-k-preserved c = let v = c.loop-k in
-    (omega arith, mask-more _ v.k _ (omega arith) (omega arith) v.invariant.1)
+    (omega arith, rw c.from.ensures (mask-more _ v.k _ (omega arith) (omega arith) v.invariant.1))
 
 pub returns : goal.returns
 returns c = let v = c.loop-k in

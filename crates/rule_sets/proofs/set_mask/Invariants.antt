@@ -6,6 +6,3 @@ use Rattle.rule_sets.proofs.set_mask.Given as goal
 
 abbrev pub invariant-loop-k : goal.invariant-loop-k
 invariant-loop-k l = (l.k ≤ 13) × (l.set ≡ set_mask (drop l.k l.held))
-
-abbrev pub decreases-loop-k : goal.decreases-loop-k
-decreases-loop-k l = l.k

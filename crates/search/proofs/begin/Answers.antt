@@ -1,29 +1,31 @@
-use mathlib.Core.Path.{subst}
 use mathlib.Core.List.{[]}
+use mathlib.Core.Path.{subst}
+use lib.ListN.{length}
 use Rattle.witness_walk.specs.Running.{Follows, LeftOf}
 use Rattle.engine.specs.State.{Began, LoadedAs}
 use Rattle.witness_walk.proofs.FollowLaws.{holds-fitting}
 use Rattle.search.proofs.CallLaws.{begins-unclean, begins-cut, begins-at}
 use Rattle.search.proofs.begin.Goals as goal
-use Rattle.search.proofs.begin.Goals.{In-Ready}
+use Rattle.search.proofs.begin.Goals.{In_ok-masks}
 
 -- the start that was read
-began : (c : In-Ready) → let a = c.args in
-    Began a.pred.now a.mem a.start.now c.load-loaded.new.order c.in-Ready.len c.in-Ready.placed c.in-Ready.can
-began c = subst (LoadedAs _ _ _ _) c.in-Ready.is c.load-loaded.ensures
+began : (c : In_ok-masks) → let a = c.args in
+    Began a.pred.now a.mem a.start.now c.load.new.order (length a.start.now) c.in_ok-masks.masks.placed c.in_ok-masks.masks.can
+began c = subst (LoadedAs _ _ _ _) c.in_ok-masks.was c.load.ensures
 
-pub follow-followed-requires : goal.follow-followed-requires
-follow-followed-requires c = let h = holds-fitting c.requires.0 (began (goal.at.follow-followed-requires c).In-Ready).holds in
-    (h.0, h.1, c.requires.2)
+pub follow-requires : goal.follow-requires
+follow-requires c = let h = holds-fitting c.requires.0 (began (goal.at.follow-requires c).In_ok-masks).holds in (h.0, h.1, c.requires.2)
 
-pub returns-in-Unclean : goal.returns-in-Unclean
-returns-in-Unclean c = begins-unclean _ [] [] (subst (LoadedAs _ _ _ _) c.in-Unclean.is c.load-loaded.ensures)
+pub returns-in_err-masks : goal.returns-in_err-masks
+returns-in_err-masks c =
+    rw c.from_residual.ensures (begins-unclean _ [] [] (subst (LoadedAs _ _ _ _) c.in_err-masks.was c.load.ensures))
 
-pub returns-in-Cut : goal.returns-in-Cut
-returns-in-Cut c = let f = c.follow-followed in
-    begins-cut f.new.goods (began (goal.at.returns-in-Cut c).In-Ready) (subst (Follows _ _ _ _ _ _) c.in-Cut.is f.ensures.follows)
+pub returns-in_err-later : goal.returns-in_err-later
+returns-in_err-later c = let f = c.follow in
+    rw c.from_residual-in_err-later.ensures
+    (begins-cut f.new.goods (began (goal.at.returns-in_err-later c).In_ok-masks) (subst (Follows _ _ _ _ _ _) c.in_err-later.was f.ensures.follows))
 
-pub returns-in-Reached : goal.returns-in-Reached
-returns-in-Reached c = let f = c.follow-followed in
-    begins-at f.new.goods (began (goal.at.returns-in-Reached c).In-Ready) (subst (Follows _ _ _ _ _ _) c.in-Reached.is f.ensures.follows)
-    (subst (LeftOf _) c.in-Reached.is f.ensures.left_of.0) f.ensures.left_of.1
+pub returns : goal.returns
+returns c = let f = c.follow in
+    begins-at f.new.goods (began (goal.at.returns c).In_ok-masks) (subst (Follows _ _ _ _ _ _) c.in_ok-later.was f.ensures.follows)
+    (subst (LeftOf _) c.in_ok-later.was f.ensures.left_of.0) f.ensures.left_of.1

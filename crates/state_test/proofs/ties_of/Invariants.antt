@@ -1,4 +1,3 @@
-use Prim.Native.Nat.{◌-◌}
 use Rattle.lists.proofs.PaddedLaws.{Padded}
 use Rattle.successors.specs.CleanMasks.{slots}
 use Rattle.state_test.proofs.TieLaws.{around}
@@ -6,6 +5,3 @@ use Rattle.state_test.proofs.ties_of.Given as goal
 
 abbrev pub invariant-loop-e : goal.invariant-loop-e
 invariant-loop-e l = Padded (around l.t) slots l.t.count l.e l.place
-
-abbrev pub decreases-loop-e : goal.decreases-loop-e
-decreases-loop-e l = l.t.count - l.e

@@ -1,29 +1,14 @@
-use Prim.Native.Nat.{◌<◌}
-use native.Mathlib.Omega.{arith}
 use mathlib.Core.Path.{refl}
-use Rattle.table.specs.Events.{capacity}
-use Rattle.state_test.proofs.UnionLaws.{unite-start, unite-end, unite-lowest, unite-less, unite-more}
+use Rattle.state_test.proofs.UnionLaws.{unite-start, unite-end, unite-more}
 use Rattle.state_test.proofs.union.Goals as goal
-use Rattle.state_test.proofs.union.Goals.{After-lowest_set-e}
 
--- the lowest bit left is an event
-lowest : (c : After-lowest_set-e) → c.lowest_set-e.result < capacity
-lowest c = unite-lowest _ _ _ _ _ _ c.loop-left.invariant (omega arith) c.lowest_set-e.ensures
+pub loop-e-init : goal.loop-e-init
+loop-e-init c = rw c.into_iter-e-iterator.ensures.into_iter_gives (unite-start _ _ _ c.ranges.of.fits)
 
-pub loop-left-init : goal.loop-left-init
-loop-left-init c = unite-start _ _ _ c.ranges.of.fits
-
-pub bounds-facts-e : goal.bounds-facts-e
-bounds-facts-e c = lowest c
-
-pub one-left-requires : goal.one-left-requires
-one-left-requires c = lowest (goal.at.one-left-requires c).After-lowest_set-e
-
-pub loop-left-smaller : goal.loop-left-smaller
-loop-left-smaller c = unite-less _ _ _ _ _ _ c.loop-left.invariant (omega arith) c.lowest_set-e.ensures _ c.one-left.ensures
-
-pub loop-left-preserved : goal.loop-left-preserved
-loop-left-preserved c = unite-more _ _ _ _ _ _ c.loop-left.invariant (omega arith) c.lowest_set-e.ensures _ _ c.one-left.ensures refl
+pub loop-e-preserved : goal.loop-e-preserved
+loop-e-preserved c =
+    let s = c.in-Some.ensures.steps in
+    rw s.rest (unite-more _ _ _ _ _ _ c.loop-e.invariant s.some s.lowest _ _ refl refl)
 
 pub returns : goal.returns
-returns c = unite-end _ _ _ _ _ c.loop-left.invariant c.loop-left-test.false
+returns c = unite-end _ _ _ _ _ c.loop-e.invariant c.in-None.ensures.steps.0

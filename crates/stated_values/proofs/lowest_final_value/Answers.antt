@@ -1,5 +1,4 @@
-use Prim.Native.Nat.{◌-◌}
-use mathlib.Core.Path.{sym}
+use mathlib.Core.Path.{refl}
 use native.Mathlib.Omega.{arith}
 use Rattle.lists.proofs.ScanLaws.{scan-start, scan-more, scan-hit, scan-end}
 use Rattle.stated_values.proofs.lowest_final_value.Goals as goal
@@ -9,11 +8,11 @@ loop-x-init c = scan-start _ _
 
 pub returns-then-breaks_final_value : goal.returns-then-breaks_final_value
 returns-then-breaks_final_value c = let v = c.loop-x in
-    sym (scan-hit _ _ _ v.invariant (omega arith) (rw c.breaks_final_value.ensures at c.if-breaks_final_value.true))
+    rw (scan-hit _ _ _ v.invariant (omega arith) (rw c.breaks_final_value.ensures at c.if-breaks_final_value.true)) (omega arith, refl)
 
 pub loop-x-preserved : goal.loop-x-preserved
 loop-x-preserved c = let v = c.loop-x in
     scan-more _ _ _ v.invariant (omega arith) (rw c.breaks_final_value.ensures at c.if-breaks_final_value.false)
 
 pub returns : goal.returns
-returns c = sym (scan-end _ _ _ c.loop-x.invariant (omega arith))
+returns c = rw (scan-end _ _ _ c.loop-x.invariant (omega arith)) (λ h. absurd (omega arith))

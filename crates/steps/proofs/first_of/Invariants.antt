@@ -1,4 +1,3 @@
-use Prim.Native.Nat.{◌-◌}
 use mathlib.Core.Bool.{◌&&◌}
 use lib.Dec.{eqb}
 use Rattle.lists.proofs.ScanLaws.{Scanned}
@@ -8,6 +7,3 @@ use Rattle.steps.proofs.first_of.Given as goal
 
 abbrev pub invariant-loop-e : goal.invariant-loop-e
 invariant-loop-e l = Scanned (λ k. eqb (hart l.t k) l.h && bit l.m k) l.t.count l.e
-
-abbrev pub decreases-loop-e : goal.decreases-loop-e
-decreases-loop-e l = l.t.count - l.e

@@ -1,8 +1,5 @@
 use Rattle.successors.proofs.WaitLaws.{Telling}
 use Rattle.successors.proofs.successors.Given as goal
 
-abbrev pub invariant-loop-left : goal.invariant-loop-left
-invariant-loop-left l = Telling l.pred l.mem l.left l.succ
-
-abbrev pub decreases-loop-left : goal.decreases-loop-left
-decreases-loop-left l = l.left
+abbrev pub invariant-loop-k : goal.invariant-loop-k
+invariant-loop-k l = Telling l.pred l.mem l.k-iterator.0 l.succ

@@ -1,4 +1,4 @@
-use Prim.Native.Nat.{◌-◌, ◌*◌, ◌≤◌, ◌^◌}
+use Prim.Native.Nat.{◌*◌, ◌≤◌}
 use mathlib.Core.Path.{◌≡◌}
 use lib.ListN.{length}
 use Rattle.edition.specs.Limits.{two, blocks_of}
@@ -6,6 +6,3 @@ use Rattle.suite.proofs.turns.Given as goal
 
 abbrev pub invariant-loop-tests : goal.invariant-loop-tests
 invariant-loop-tests l = (l.held ≤ length l.buffer) × (length l.buffer ≡ length l.initial.buffer) × (l.block ≤ blocks_of two * l.tests)
-
-abbrev pub decreases-loop-tests : goal.decreases-loop-tests
-decreases-loop-tests l = 2 ^ 64 - l.tests

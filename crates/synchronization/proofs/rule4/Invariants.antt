@@ -5,6 +5,3 @@ use Rattle.synchronization.proofs.rule4.Given as goal
 
 abbrev pub invariant-loop-m : goal.invariant-loop-m
 invariant-loop-m l = Scanned (separates l.t l.a.0 l.b.0) l.t.count l.m
-
-abbrev pub decreases-loop-m : goal.decreases-loop-m
-decreases-loop-m l = l.t.count - l.m

@@ -1,4 +1,3 @@
-use Prim.Native.Nat.{◌-◌}
 use native.Mathlib.Omega.{arith}
 use Rattle.table.specs.Events.{memory_events, memory_mask}
 use Rattle.table.proofs.EventTests.{of_events}
@@ -11,7 +10,7 @@ loop-e-init c = gather-start _ _
 pub loop-e-preserved : goal.loop-e-preserved
 unfolding of_events
 loop-e-preserved c = gather-more _ _ _ _ _ c.loop-e.invariant (omega arith)
-    (rw c.memory.ensures at c.one_if-mask.ensures)
+    (rw (c.memory.ensures, c.from.ensures) at c.one_if-mask.ensures)
 
 pub returns : goal.returns
 unfolding memory_mask memory_events

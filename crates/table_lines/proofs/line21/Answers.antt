@@ -1,4 +1,3 @@
-use Prim.Native.Nat.{◌-◌}
 use mathlib.Core.Path.{sym, ap, ◌∙◌}
 use mathlib.Core.Bool.{not}
 use native.Mathlib.Omega.{arith}
@@ -12,10 +11,10 @@ loop-x-init c = scan-start _ _
 
 pub returns-then-not-has : goal.returns-then-not-has
 unfolding line21
-returns-then-not-has c = sym (some-hit _ _ _ c.loop-x.invariant (omega arith) (sym (unused-at _ _ _ c.touched.ensures _) ∙ ap not (rw c.has.ensures at c.if-not-has.true)))
+returns-then-not-has c = sym (some-hit _ _ _ c.loop-x.invariant (omega arith) (sym (unused-at _ _ _ c.touched.ensures _) ∙ ap not (rw (c.has.ensures, c.from.ensures) at c.if-not-has.true)))
 
 pub loop-x-preserved : goal.loop-x-preserved
-loop-x-preserved c = scan-more _ _ _ c.loop-x.invariant (omega arith) (sym (unused-at _ _ _ c.touched.ensures _) ∙ ap not (rw c.has.ensures at c.if-not-has.false))
+loop-x-preserved c = scan-more _ _ _ c.loop-x.invariant (omega arith) (sym (unused-at _ _ _ c.touched.ensures _) ∙ ap not (rw (c.has.ensures, c.from.ensures) at c.if-not-has.false))
 
 pub returns : goal.returns
 unfolding line21

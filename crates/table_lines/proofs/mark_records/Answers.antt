@@ -1,4 +1,4 @@
-use Prim.Native.Nat.{◌-◌, ◌<◌}
+use Prim.Native.Nat.{◌<◌}
 use native.Mathlib.Omega.{arith}
 use Rattle.masks.proofs.GatherLaws.{gather-start, gather-more, gather-end}
 use Rattle.table.specs.Events.{memory_events, memory_mask}
@@ -18,9 +18,9 @@ unfolding line7 line8 of_events
 loop-k-preserved c = let v = c.loop-k.invariant in
     let l : c.loop-k.k < c.args.t.count = omega arith in
     record {
-      fields-so-far = gather-more _ _ _ _ _ v.fields-so-far l (rw c.line7.ensures at c.one_if-fields.ensures);
-      annotations-so-far = gather-more _ _ _ _ _ v.annotations-so-far l (rw c.line8.ensures at c.one_if-annotations.ensures);
-      memory-so-far = gather-more _ _ _ _ _ v.memory-so-far l (rw c.memory.ensures at c.one_if-memory.ensures);
+      fields-so-far = gather-more _ _ _ _ _ v.fields-so-far l (rw (c.line7.ensures, c.from.ensures) at c.one_if-fields.ensures);
+      annotations-so-far = gather-more _ _ _ _ _ v.annotations-so-far l (rw (c.line8.ensures, c.from.ensures) at c.one_if-annotations.ensures);
+      memory-so-far = gather-more _ _ _ _ _ v.memory-so-far l (rw (c.memory.ensures, c.from.ensures) at c.one_if-memory.ensures);
     }
 
 pub returns : goal.returns

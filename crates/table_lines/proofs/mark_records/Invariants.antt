@@ -1,4 +1,4 @@
-use Prim.Native.Nat.{ℕ, ◌-◌}
+use Prim.Native.Nat.{ℕ}
 use Rattle.masks.proofs.GatherLaws.{Gathered}
 use Rattle.table.specs.declared.Table.{Table}
 use Rattle.table.specs.Events.{memory}
@@ -13,6 +13,3 @@ pub record Marking (t : Table) (k fields annotations memories : ℕ) : Type 0 wh
 
 abbrev pub invariant-loop-k : goal.invariant-loop-k
 invariant-loop-k l = Marking l.t l.k l.fields l.annotations l.memory
-
-abbrev pub decreases-loop-k : goal.decreases-loop-k
-decreases-loop-k l = l.t.count - l.k

@@ -10,7 +10,7 @@ line21-requires c = let ok = sym c.refuse_records-refusal.ensures ∙ ap refusal
 
 pub returns-then-line21 : goal.returns-then-line21
 returns-then-line21 c = let ok = sym c.refuse_records-refusal.ensures ∙ ap refusal_of c.in-None.is in
-    by-21 _ _ ok (sym c.line21.ensures ∙ c.if-line21.true)
+    by-21 _ _ ok (rw c.from.ensures at (sym c.line21.ensures ∙ c.if-line21.true))
 
 pub returns-in-Line : goal.returns-in-Line
 returns-in-Line c = by-record _ _ _ (ap refusal_of (sym c.in-Line.is) ∙ c.refuse_records-refusal.ensures) (line-refuses _)
@@ -20,4 +20,4 @@ returns-in-Record c = by-record _ _ _ (ap refusal_of (sym c.in-Record.is) ∙ c.
 
 pub returns-else-line21 : goal.returns-else-line21
 returns-else-line21 c = let ok = sym c.refuse_records-refusal.ensures ∙ ap refusal_of c.in-None.is in
-    by-none _ _ ok (sym c.line21.ensures ∙ c.if-line21.false)
+    by-none _ _ ok (rw c.from.ensures at (sym c.line21.ensures ∙ c.if-line21.false))

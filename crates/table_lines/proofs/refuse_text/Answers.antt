@@ -8,9 +8,9 @@ use Rattle.table_lines.proofs.UsedLaws.{all_named}
 use Rattle.table_lines.proofs.AsBlockLaws.{text-lines}
 use Rattle.table_lines.proofs.refuse_text.Goals as goal
 
-pub returns-then-t-gt-EVENTS : goal.returns-then-t-gt-EVENTS
+pub returns-then-from-gt-EVENTS : goal.returns-then-from-gt-EVENTS
 unfolding table_lines_by
-returns-then-t-gt-EVENTS c = whole_here _ _ _ _ (too_many (most_events two) _ (lt-ltb _ _ c.if-t-gt-EVENTS.true))
+returns-then-from-gt-EVENTS c = whole_here _ _ _ _ (too_many (most_events two) _ (lt-ltb _ _ (rw c.from.ensures at c.if-from-gt-EVENTS.true)))
 
 pub returns : goal.returns
 returns c = c.refuse.ensures ∙ all_named _ (most_events two) _ ∙ text-lines _ _ c.table_as_block.ensures (most_events two)

@@ -1,4 +1,3 @@
-use Prim.Native.Nat.{◌-◌}
 use mathlib.Core.Path.{refl}
 use native.Mathlib.Omega.{arith}
 use Rattle.table.specs.Events.{event}
@@ -11,7 +10,7 @@ loop-k-init c = (omega arith, turn-start _ c.well_formed.0.1.1.1.1.1.1.1.1.0.1.0
 pub loop-k-preserved : goal.loop-k-preserved
 unfolding event
 loop-k-preserved c = let v = c.loop-k in
-    (omega arith, turn_more _ v.k v.events _ v.invariant.1 (omega arith) c.as_block.ensures)
+    rw c.from-slot.ensures (omega arith, turn_more _ v.k v.events _ v.invariant.1 (omega arith) (rw c.from-slot.ensures at c.as_block.ensures))
 
 pub returns : goal.returns
 unfolding event

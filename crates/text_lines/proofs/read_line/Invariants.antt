@@ -1,11 +1,5 @@
-use Prim.Native.Nat.{◌-◌}
-use lib.ListN.{length}
-use Rattle.text_format.specs.Document.{field_bounds}
 use Rattle.text_lines.proofs.FieldLaws.{Fields}
 use Rattle.text_lines.proofs.read_line.Given as goal
 
 abbrev pub invariant-loop-i : goal.invariant-loop-i
 invariant-loop-i l = Fields l.text l.from l.at l.i l.fields
-
-abbrev pub decreases-loop-i : goal.decreases-loop-i
-decreases-loop-i l = length field_bounds - l.i

@@ -7,6 +7,3 @@ abbrev pub invariant-loop-e : goal.invariant-loop-e
 invariant-loop-e l =
     Padded (λ (k : ℕ). (event l.t k).operation + 256 * (event l.t k).operand) capacity l.t.count l.e l.row
     × ((k : ℕ) → k < l.e → ((event l.t k).operation < 2 ^ 8) × ((event l.t k).operand < 2 ^ 8))
-
-abbrev pub decreases-loop-e : goal.decreases-loop-e
-decreases-loop-e l = l.t.count - l.e

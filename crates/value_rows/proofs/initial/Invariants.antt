@@ -6,6 +6,3 @@ use Rattle.value_rows.proofs.initial.Given as goal
 
 abbrev pub invariant-loop-x : goal.invariant-loop-x
 invariant-loop-x l = Padded (initial_value l.t) capacity l.t.locations l.x l.row × ((k : ℕ) → k < l.x → initial_value l.t k < 2 ^ 16)
-
-abbrev pub decreases-loop-x : goal.decreases-loop-x
-decreases-loop-x l = l.t.locations - l.x

@@ -8,6 +8,3 @@ use Rattle.value_rows.proofs.operated.Given as goal
 
 abbrev pub invariant-loop-e : goal.invariant-loop-e
 invariant-loop-e l = Gathered (λ k. not (eqb (event l.t k).operation no_operation)) l.t.count l.e l.mask
-
-abbrev pub decreases-loop-e : goal.decreases-loop-e
-decreases-loop-e l = l.t.count - l.e

@@ -5,6 +5,3 @@ use Rattle.value_rows.proofs.places.Given as goal
 
 abbrev pub invariant-loop-e : goal.invariant-loop-e
 invariant-loop-e l = Padded (location l.t) capacity l.t.count l.e l.row
-
-abbrev pub decreases-loop-e : goal.decreases-loop-e
-decreases-loop-e l = l.t.count - l.e

@@ -7,6 +7,3 @@ abbrev pub invariant-loop-e : goal.invariant-loop-e
 invariant-loop-e l =
     Padded (λ (k : ℕ). (event l.t k).written) capacity l.t.count l.e l.row
     × ((k : ℕ) → k < l.e → (event l.t k).written < 2 ^ 16)
-
-abbrev pub decreases-loop-e : goal.decreases-loop-e
-decreases-loop-e l = l.t.count - l.e

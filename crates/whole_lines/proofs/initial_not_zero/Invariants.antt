@@ -1,11 +1,7 @@
 use Rattle.edition.specs.Limits.{max_locations}
 use Rattle.refusals.specs.TableLines.{initial_not_zero}
-use Prim.Native.Nat.{◌-◌}
 use Rattle.lists.proofs.ScanLaws.{Scanned}
 use Rattle.whole_lines.proofs.initial_not_zero.Given as goal
 
 abbrev pub invariant-loop-x : goal.invariant-loop-x
-invariant-loop-x l = Scanned (initial_not_zero l.locations l.initial') max_locations l.x
-
-abbrev pub decreases-loop-x : goal.decreases-loop-x
-decreases-loop-x l = max_locations - l.x
+invariant-loop-x l = Scanned (initial_not_zero l.locations l.fn.initial) max_locations l.x

@@ -1,4 +1,4 @@
-use Prim.Native.Nat.{ℕ, ◌+◌, ◌-◌, ◌^◌, ◌≤◌, ◌<◌}
+use Prim.Native.Nat.{ℕ, ◌+◌, ◌^◌, ◌≤◌, ◌<◌}
 use mathlib.Core.Path.{◌≡◌, refl, sym, ap, ◌∙◌}
 use mathlib.Core.Bool.{Bool, true, false, not}
 use native.Mathlib.Omega.{arith}
@@ -34,11 +34,11 @@ loop-k-init c = blank-start _ (search rules)
 pub returns-then-not-blank : goal.returns-then-not-blank
 unfolding event
 returns-then-not-blank c = let v = c.loop-k in
-    sym (some_at capacity (past_not_blank c.args.t) v.k (omega arith) (sym (asked c.args.t v.k v.invariant.past) ∙ ap not (rw c.blank.ensures at c.if-not-blank.true)))
+    sym (some_at capacity (past_not_blank c.args.t) v.k (omega arith) (sym (asked c.args.t v.k v.invariant.past) ∙ ap not (rw (c.blank.ensures, c.from.ensures) at c.if-not-blank.true)))
 
 pub loop-k-preserved : goal.loop-k-preserved
 unfolding event
-loop-k-preserved c = blank-more _ _ c.loop-k.invariant (omega arith) (ap not (rw c.blank.ensures at c.if-not-blank.false))
+loop-k-preserved c = blank-more _ _ c.loop-k.invariant (omega arith) (ap not (rw (c.blank.ensures, c.from.ensures) at c.if-not-blank.false))
 
 pub returns : goal.returns
 returns c = sym (some-none capacity _ (λ j l. c.loop-k.invariant.none j (omega (arith, l))))

@@ -1,8 +1,7 @@
-use Prim.Native.Nat.{ℕ, ◌-◌, ◌^◌, ◌≤◌, ◌<◌}
+use Prim.Native.Nat.{ℕ, ◌^◌, ◌≤◌, ◌<◌}
 use mathlib.Core.Path.{◌≡◌}
 use mathlib.Core.Bool.{false}
 use Rattle.table.specs.declared.Table.{Table}
-use Rattle.table.specs.Events.{capacity}
 use Rattle.refusals.specs.TableLines.{past_not_blank}
 use Rattle.whole_lines.proofs.past_not_blank.Given as goal
 
@@ -14,6 +13,3 @@ pub record Blank (t : Table) (k : ℕ) : Type 0 where
 
 abbrev pub invariant-loop-k : goal.invariant-loop-k
 invariant-loop-k l = Blank l.t l.k
-
-abbrev pub decreases-loop-k : goal.decreases-loop-k
-decreases-loop-k l = capacity - l.k

@@ -1,5 +1,4 @@
 use Rattle.refusals.specs.TableLines.{missing, states_missing}
-use Prim.Native.Nat.{◌-◌}
 use mathlib.Core.Path.{sym}
 use native.Mathlib.Omega.{arith}
 use Rattle.lists.proofs.ScanLaws.{scan-start, scan-more, some-hit, some_end}
@@ -10,11 +9,11 @@ loop-x-init c = scan-start _ _
 
 pub returns-then-has-locations : goal.returns-then-has-locations
 unfolding missing states_missing
-returns-then-has-locations c = sym (some-hit _ _ _ c.loop-x.invariant (omega arith) (rw c.has.ensures at c.if-has-locations.true))
+returns-then-has-locations c = sym (some-hit _ _ _ c.loop-x.invariant (omega arith) (rw (c.has.ensures, c.from.ensures, c.from-in-loop-x.ensures) at c.if-has-locations.true))
 
 pub loop-x-preserved : goal.loop-x-preserved
 unfolding missing states_missing
-loop-x-preserved c = scan-more _ _ _ c.loop-x.invariant (omega arith) (rw c.has.ensures at c.if-has-locations.false)
+loop-x-preserved c = scan-more _ _ _ c.loop-x.invariant (omega arith) (rw (c.has.ensures, c.from.ensures, c.from-in-loop-x.ensures) at c.if-has-locations.false)
 
 pub returns : goal.returns
 unfolding states_missing

@@ -2,8 +2,9 @@ use mathlib.Core.Path.{refl, sym, ◌∙◌}
 use Rattle.order_test.proofs.TellLaws.{tell-stated}
 use Rattle.witness_walk.proofs.enters.Goals as goal
 
-pub returns-then-has : goal.returns-then-has
-returns-then-has c = rw (sym c.has.ensures ∙ c.if-has.true) (tell-stated _ _ _ c.reads_stated.ensures)
+pub returns-then-not-has : goal.returns-then-not-has
+returns-then-not-has c = rw (rw c.from.ensures at (sym c.has.ensures ∙ c.if-not-has.true), c.if-not-has.true) refl
 
-pub returns-else-has : goal.returns-else-has
-returns-else-has c = rw (sym c.has.ensures ∙ c.if-has.false) refl
+pub returns-else-not-has : goal.returns-else-not-has
+returns-else-not-has c =
+    rw (rw c.from.ensures at (sym c.has.ensures ∙ c.if-not-has.false)) (tell-stated _ _ _ c.reads_stated.ensures)

@@ -1,6 +1,6 @@
-use Prim.Native.Nat.{◌-◌, ◌<◌}
+use Prim.Native.Nat.{◌<◌}
 use native.Mathlib.Omega.{arith}
-use lib.ListN.{get_or}
+use lib.ListN.{get_or, take, length-take}
 use Rattle.table.specs.Events.{capacity}
 use Rattle.witness_walk.proofs.FollowLaws.{follow-start, follow-room, follow-cut, follow-more, follow-end, left-of}
 use Rattle.witness_walk.proofs.follow.Goals as goal
@@ -8,7 +8,7 @@ use Rattle.witness_walk.proofs.follow.Goals.{Else-not-entered}
 
 -- the next entry has room in a mask
 room : (c : Else-not-entered) →
-    get_or c.args.order.now c.loop-i.i 0 < capacity
+    get_or (take c.args.len c.args.order.now) c.loop-i.i 0 < capacity
 room c = follow-room c.requires.0 c.loop-i.invariant.1 c.loop-i-test.true
 
 pub loop-i-init : goal.loop-i-init
@@ -22,20 +22,17 @@ pub enters-entered-requires : goal.enters-entered-requires
 enters-entered-requires c = room (goal.at.enters-entered-requires c).Else-not-entered
 
 pub note_good-requires : goal.note_good-requires
-note_good-requires c = (c.loop-i.invariant.1.long, omega (arith, c.requires.1), room (goal.at.note_good-requires c).Else-not-entered)
-
-pub overflow_cast-e : goal.overflow_cast-e
-overflow_cast-e c = omega (arith, room (goal.at.overflow_cast-e c).Else-not-entered)
+note_good-requires c = (c.loop-i.invariant.1.long, omega (arith, c.requires.1, length-take c.args.len c.args.order.now), room (goal.at.note_good-requires c).Else-not-entered)
 
 pub one-placed-requires : goal.one-placed-requires
-one-placed-requires c = omega (arith, room (goal.at.one-placed-requires c).Else-not-entered)
+one-placed-requires c = omega (arith, room (goal.at.one-placed-requires c).Else-not-entered, c.from.ensures)
 
 pub loop-i-preserved : goal.loop-i-preserved
 loop-i-preserved c = let v = c.loop-i in (
-  omega arith,
+  omega (arith, length-take c.args.len c.args.order.now),
   follow-more c.requires.0 v.invariant.1 c.loop-i-test.true _ c.if-not-entered.false c.requires.1
-      c.enters-entered.ensures c.note_good.ensures c.one-placed.ensures,
+      c.enters-entered.ensures c.note_good.ensures (rw c.from.ensures at c.one-placed.ensures),
 )
 
 pub returns : goal.returns
-returns c = let v = c.loop-i in record { follows = follow-end c.requires.0 v.invariant.1 v.invariant.0 c.loop-i-test.false c.mask_if.ensures; left_of = (left-of v.entered c.mask_if.ensures, v.invariant.1.long) }
+returns c = let v = c.loop-i in record { follows = follow-end c.requires.0 v.invariant.1 v.invariant.0 (omega (arith, length-take c.args.len c.args.order.now)) c.mask_if.ensures; left_of = (left-of v.entered c.mask_if.ensures, v.invariant.1.long) }

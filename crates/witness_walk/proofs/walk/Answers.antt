@@ -47,18 +47,15 @@ returns-then-keep-eq0 c = let w = going-none c.loop-later.invariant c.if-later-e
 pub bounds-order-keep : goal.bounds-order-keep
 bounds-order-keep c = omega (arith, stand-room c.loop-later.invariant.stands)
 
-pub overflow_cast-e : goal.overflow_cast-e
-overflow_cast-e c = omega (arith, last-event (goal.at.overflow_cast-e c).Else-keep-eq0)
-
 pub take_back-masks-requires : goal.take_back-masks-requires
 take_back-masks-requires c = omega (arith, last-event (goal.at.take_back-masks-requires c).Else-keep-eq0)
 
 pub past-later-requires : goal.past-later-requires
-past-later-requires c = last-event (goal.at.past-later-requires c).Else-keep-eq0
+past-later-requires c = rw c.from-e.ensures (last-event (goal.at.past-later-requires c).Else-keep-eq0)
 
 pub loop-later-preserved-then-later-eq0 : goal.loop-later-preserved-then-later-eq0
 loop-later-preserved-then-later-eq0 c = let b = c.take_back-masks.ensures in
-    going-back c.loop-later.invariant c.if-later-eq0.true (omega arith) refl b.placed_value b.can_value c.past-later.ensures
+    going-back c.loop-later.invariant c.if-later-eq0.true (omega arith) c.from-e.ensures b.placed_value b.can_value c.past-later.ensures
 
 pub returns-then-visited-budget : goal.returns-then-visited-budget
 returns-then-visited-budget c = let w = going-spent c.loop-later.invariant c.if-later-eq0.false refl _ c.spent.ensures c.if-visited-budget.true in
@@ -79,8 +76,8 @@ offset_bounds-goods-keep c = omega (arith, stand-room c.loop-later.invariant.sta
 pub bounds-goods-keep : goal.bounds-goods-keep
 bounds-goods-keep c = stand-room c.loop-later.invariant.stands
 
-pub overflow_cast-e-in-loop-later : goal.overflow_cast-e-in-loop-later
-overflow_cast-e-in-loop-later c = omega (arith, event (goal.at.overflow_cast-e-in-loop-later c).After-lowest_set-e)
+pub overflow_cast-e : goal.overflow_cast-e
+overflow_cast-e c = omega (arith, event (goal.at.overflow_cast-e c).After-lowest_set-e)
 
 pub enters-requires : goal.enters-requires
 enters-requires c = omega (arith, event (goal.at.enters-requires c).After-lowest_set-e)
@@ -103,8 +100,8 @@ pub loop-later-preserved-then-last-mem : goal.loop-later-preserved-then-last-mem
 loop-later-preserved-then-last-mem c = going-whole (inv (goal.at.loop-later-preserved-then-last-mem c).After-lowest_set-e) (some (goal.at.loop-later-preserved-then-last-mem c).After-lowest_set-e) (low (goal.at.loop-later-preserved-then-last-mem c).After-lowest_set-e) (left (goal.at.loop-later-preserved-then-last-mem c).After-lowest_set-e) refl c.one-b.ensures refl _ c.is_witness.new.seen
     c.is_witness.new.kept c.if-last-mem.true c.is_witness.ensures.witnesses c.if-is_witness.false c.is_witness.ensures.seen_len
 
-pub overflow_cast-e-in-loop-later-2 : goal.overflow_cast-e-in-loop-later-2
-overflow_cast-e-in-loop-later-2 c = omega (arith, event (goal.at.overflow_cast-e-in-loop-later-2 c).After-lowest_set-e)
+pub overflow_cast-e-in-loop-later : goal.overflow_cast-e-in-loop-later
+overflow_cast-e-in-loop-later c = omega (arith, event (goal.at.overflow_cast-e-in-loop-later c).After-lowest_set-e)
 
 pub note_good-requires : goal.note_good-requires
 note_good-requires c = ((inv (goal.at.note_good-requires c).After-lowest_set-e).long, next-room (inv (goal.at.note_good-requires c).After-lowest_set-e).stands (some (goal.at.note_good-requires c).After-lowest_set-e) (low (goal.at.note_good-requires c).After-lowest_set-e) refl c.one-b.ensures, omega (arith, event (goal.at.note_good-requires c).After-lowest_set-e))

@@ -7,7 +7,7 @@ use Rattle.writer.proofs.write_whole.Goals as goal
 pub returns-in-None : goal.returns-in-None
 unfolding table_lines
 returns-in-None c = let a = c.args in
-    let w = writes-whole a.t a.out.now _ c.copy.new.out c.requires (sym (ap refusal_of c.in-None.is) ∙ c.refuse-refusal.ensures) (c.copy.ensures ∙ c.encode.ensures) in
+    let w = writes-whole a.t a.out.now _ c.copy_from_slice.new.self c.requires (sym (ap refusal_of c.in-None.is) ∙ c.refuse-refusal.ensures) (c.copy_from_slice.ensures.after ∙ c.encode.ensures) in
     record { result_value = w.0; out_after = w.1 }
 
 pub returns-in-Line : goal.returns-in-Line

@@ -6,6 +6,3 @@ use Rattle.zero_bytes.proofs.later_not_zero.Given as goal
 
 abbrev pub invariant-loop-b : goal.invariant-loop-b
 invariant-loop-b l = Scanned (λ (j : ℕ). some_not_zero l.s (block_length * (1 + j) + 480) 28) (blocks_of two - 1) l.b
-
-abbrev pub decreases-loop-b : goal.decreases-loop-b
-decreases-loop-b l = blocks_of two - 1 - l.b

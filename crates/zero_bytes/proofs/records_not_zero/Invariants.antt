@@ -1,4 +1,4 @@
-use Prim.Native.Nat.{ℕ, ◌+◌, ◌-◌}
+use Prim.Native.Nat.{ℕ, ◌+◌}
 use Rattle.lists.proofs.ScanLaws.{Scanned}
 use Rattle.edition.specs.Limits.{two, most_events}
 use Rattle.decode.specs.Layout.{wide_record_at}
@@ -7,6 +7,3 @@ use Rattle.zero_bytes.proofs.records_not_zero.Given as goal
 
 abbrev pub invariant-loop-k : goal.invariant-loop-k
 invariant-loop-k l = Scanned (λ (j : ℕ). some_not_zero l.s (wide_record_at j + 22) 10) (most_events two) l.k
-
-abbrev pub decreases-loop-k : goal.decreases-loop-k
-decreases-loop-k l = most_events two - l.k

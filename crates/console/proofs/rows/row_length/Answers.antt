@@ -1,15 +1,9 @@
-use native.Mathlib.Omega.{arith}
-use Rattle.console.proofs.RowLaws.{row_more, row-newline, row-end}
+use Rattle.std.proofs.Common.{rules, tests, nat_eq}
+use Rattle.std.proofs.lemmas.Iterator.{YieldsList-from_slice}
+use Rattle.std.proofs.lemmas.Iterator.Search.{position_from_yields_List}
+use Rattle.console.proofs.RowLaws.{row_found}
 use Rattle.console.proofs.rows.row_length.Goals as goal
 
-pub returns-then-text-i-eq10 : goal.returns-then-text-i-eq10
-returns-then-text-i-eq10 c = let v = c.loop-i in
-    (row-newline _ v.i c.loop-i-test.true c.if-text-i-eq10.true v.invariant.1, v.invariant.0)
-
-pub loop-i-preserved : goal.loop-i-preserved
-loop-i-preserved c = let v = c.loop-i in
-    (omega arith, row_more _ v.i c.loop-i-test.true c.if-text-i-eq10.false v.invariant.1)
-
 pub returns : goal.returns
-returns c = let v = c.loop-i in
-    (row-end _ v.i (omega arith) v.invariant.1, v.invariant.0)
+returns c = row_found _ _ _ (position_from_yields_List (λ b. nat_eq b 10) _ _ c.position.result c.position.ensures.ran (YieldsList-from_slice _ c.iter.ensures.rest) (λ x b q k. search (rules, tests)))
+    c.unwrap_or.ensures
