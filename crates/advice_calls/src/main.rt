@@ -16,10 +16,10 @@ fn advise(rt: &HostRuntime, k: u64, block: &[u8]) {
     let allowance = calls::number(rt);
     let line = calls::begin(rt, k);
     let said = match bench::advise(block, allowance) {
-        Advice::Refused(r) => words::refused(line, r),
-        Advice::Advised(mask) => with_mask(line, b"advised", mask),
-        Advice::Undecided(mask) => with_mask(line, b"undecided", mask),
-        Advice::NoHelp => line.text(b"no help"),
+        Ok(Advice::Advised(mask)) => with_mask(line, b"advised", mask),
+        Ok(Advice::Undecided(mask)) => with_mask(line, b"undecided", mask),
+        Ok(Advice::NoHelp) => line.text(b"no help"),
+        Err(r) => words::refused(line, r),
     };
     let _ = said.end();
 }

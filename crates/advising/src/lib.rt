@@ -1,7 +1,7 @@
 // Which fences to add: the sets of clear fences are tried one after the other, each by a search of its own.
 #![tactic(auto)]
 
-ghost use Rattle.std.specs.Prelude.{◌≤◌, ◌<◌, ◌≡◌, [], ◌∷◌, length};
+ghost use Rattle.std.specs.Prelude.{◌≤◌, ◌<◌, ◌≡◌, [], ◌∷◌, length, Ok};
 ghost use Rattle.lists.specs.Reply.{answered};
 ghost use Rattle.masks.specs.MaskOf.{mask_of};
 ghost use Rattle.table.specs.Events.{capacity};
@@ -16,14 +16,13 @@ ghost use Rattle.advising.specs.Replies.{table_advice, advice_of, decides};
 use fact_rows::ROWS;
 use masks::{has, lowest_set, mask_if, one, one_if};
 use refusals::Refusal;
-use search::{ALLOWANCE, Reply};
+use search::ALLOWANCE;
 use table::{CAPACITY, Event, Kind, Table};
 use witness_walk::Ending;
 
 // The answer; a set of fences is the mask of their numbers.
 #[derive(Clone, Copy)]
 pub enum Advice {
-    Refused(Refusal),
     Advised(u32),
     Undecided(u32),
     NoHelp,
@@ -89,7 +88,12 @@ fn with_fences(t: Table, set: u32) -> Table
 }
 
 // What the search with a set says, by the facts of the table without it; a set with which a witness is found doesn't help.
-fn try_set(t: Table, facts: &[[u32; CAPACITY]; ROWS], set: u32, allowance: u64) -> Advice
+fn try_set(
+    t: Table,
+    facts: &[[u32; CAPACITY]; ROWS],
+    set: u32,
+    allowance: u64,
+) -> Result<Advice, Refusal>
     requires { Facts t facts.now × (allowance ≤ max_allowance) }
     ensures { advice_of result ≡ answered (first_unfound (search_with t allowance) (events_in set ∷ [])) }
 {
@@ -98,20 +102,17 @@ fn try_set(t: Table, facts: &[[u32; CAPACITY]; ROWS], set: u32, allowance: u64) 
     let words = [0u32; 0];
     let start = [0u8; 0];
     let mut order = [0u8; CAPACITY];
-    let reply = search::search_by(u, sets, facts, &words, 0, &start, &mut order, allowance);
-    match reply {
-        Reply::Refused(refusal) => Advice::Refused(refusal),
-        Reply::Answered(ending) => match ending {
-            Ending::Found { len, visited } => Advice::NoHelp,
-            Ending::NoneLeft { visited } => Advice::Advised(set),
-            Ending::Spent { len, visited } => Advice::Undecided(set),
-        },
+    let ending = search::search_by(u, sets, facts, &words, 0, &start, &mut order, allowance)?;
+    match ending {
+        Ending::Found { .. } => Ok(Advice::NoHelp),
+        Ending::NoneLeft { .. } => Ok(Advice::Advised(set)),
+        Ending::Spent { .. } => Ok(Advice::Undecided(set)),
     }
 }
 
 // Whether nothing further is tried.
 fn decides(said: Advice) -> bool
-    ensures { result ≡ decides (advice_of said) }
+    ensures { result ≡ decides (advice_of (Ok said)) }
 {
     !matches!(said, Advice::NoHelp)
 }
@@ -123,47 +124,52 @@ fn try_size(
     fences: u32,
     size: u32,
     allowance: u64,
-) -> Advice
+) -> Result<Advice, Refusal>
     requires { Facts t facts.now × (length (events_in fences) ≤ most_fences) × (allowance ≤ max_allowance) }
     ensures { advice_of result ≡ answered (first_unfound (search_with t allowance) (of_size (events_in fences) size)) }
 {
     for m in (0..one(u32::count_ones(fences))).rev() {
         if u32::count_ones(m) == size {
-            let said = try_set(t, facts, chosen(fences, m), allowance);
+            let said = try_set(t, facts, chosen(fences, m), allowance)?;
             if decides(said) {
-                return said;
+                return Ok(said);
             }
         }
     }
-    Advice::NoHelp
+    Ok(Advice::NoHelp)
 }
 
 // Tries all sets, by size.
-fn try_all(t: Table, facts: &[[u32; CAPACITY]; ROWS], fences: u32, allowance: u64) -> Advice
+fn try_all(
+    t: Table,
+    facts: &[[u32; CAPACITY]; ROWS],
+    fences: u32,
+    allowance: u64,
+) -> Result<Advice, Refusal>
     requires { Facts t facts.now × (length (events_in fences) ≤ most_fences) × (allowance ≤ max_allowance) }
     ensures { advice_of result ≡ answered (first_unfound (search_with t allowance) (by_size (events_in fences))) }
 {
     let most = u32::count_ones(fences);
     for size in 0..=most {
-        let said = try_size(t, facts, fences, size, allowance);
+        let said = try_size(t, facts, fences, size, allowance)?;
         if decides(said) {
-            return said;
+            return Ok(said);
         }
     }
-    Advice::NoHelp
+    Ok(Advice::NoHelp)
 }
 
 // The advice for a table: refusals 22 and 17, or what the first set says with which no witness is found.
-pub fn advise(t: Table, allowance: u64) -> Advice
+pub fn advise(t: Table, allowance: u64) -> Result<Advice, Refusal>
     requires { GoodTable t }
     ensures { advice_of result ≡ table_advice t allowance }
 {
     let fences = clear_fences(t);
     if FENCES < u32::count_ones(fences) {
-        return Advice::Refused(Refusal::Line(22));
+        return Err(Refusal::Line(22));
     }
     if ALLOWANCE < allowance {
-        return Advice::Refused(Refusal::Line(17));
+        return Err(Refusal::Line(17));
     }
     let facts = facts::of_table(t, event_sets::of_table(t));
     try_all(t, &facts, fences, allowance)

@@ -2,11 +2,12 @@
 #![tactic(auto)]
 
 ghost use Rattle.std.specs.Prelude.{◌^◌, ◌<◌, ◌≡◌};
-ghost use Rattle.refusals.specs.Refusals.{refusal_of};
+ghost use Rattle.refusals.specs.Lines.{accepted};
+ghost use Rattle.refusals.specs.Refusals.{refusal_of, refused_by};
 ghost use Rattle.rule_sets.specs.RuleMask.{rules_in};
-ghost use Rattle.verdict.specs.Judged.{axiom_of, judged_of};
-ghost use Rattle.pair_rules.specs.PairRules.{ruled_of};
-ghost use Rattle.steps.specs.Replies.{step_of};
+ghost use Rattle.verdict.specs.Judged.{axiom_of, judged_by};
+ghost use Rattle.pair_rules.specs.PairRules.{ruled_by};
+ghost use Rattle.steps.specs.Replies.{stepped_by};
 ghost use Rattle.advising.specs.Replies.{advice_of};
 ghost use Rattle.answer_word.specs.Words.{word, refusal_word, rules_mask, lowest_of, verdict_word, judged_word, ruled_word, step_word, advice_word};
 ghost use Rattle.text.specs.TextRefusals.{text_refusal_of};
@@ -14,13 +15,9 @@ ghost use Rattle.answer_word.specs.Given.{ending_word, given_word, listed_word, 
 ghost use Rattle.answer_word.specs.Given.{EndingFits, GivenFits, PlaceFits, TextGivenFits, DecisionFits};
 
 use advising::Advice;
-use bench::TextReply;
-use deciding::Decision;
-use outcome_listing::OutcomeReply;
-use pair_rules::PairRules;
+use outcome_listing::Listing;
 use refusals::Refusal;
-use search::Reply;
-use steps::StepReply;
+use steps::StepTaken;
 use text::TextRefusal;
 use verdict::{Axiom, Verdict};
 use witness_walk::Ending;
@@ -76,9 +73,25 @@ pub fn refusal_word(refusal: Refusal) -> u64
     ensures { result ≡ refusal_word (refusal_of refusal) }
 {
     match refusal {
-        Refusal::None => word(Case::GOOD, 0, 0, 0, 0),
         Refusal::Line(n) => word(Case::REFUSED, n, NO_RECORD, 0, 0),
         Refusal::Record(n, k) => word(Case::REFUSED, n, k.0, 0, 0),
+    }
+}
+
+// The word where nothing refuses.
+pub fn good_word() -> u64
+    ensures { result ≡ refusal_word accepted }
+{
+    word(Case::GOOD, 0, 0, 0, 0)
+}
+
+// Of what answers by its buffer alone.
+pub fn done_word(done: Result<(), Refusal>) -> u64
+    ensures { result ≡ refusal_word (refused_by done) }
+{
+    match done {
+        Ok(()) => good_word(),
+        Err(refusal) => refusal_word(refusal),
     }
 }
 
@@ -131,43 +144,43 @@ fn axiom_word(place: Axiom) -> u64
     }
 }
 
-pub fn verdict_word(verdict: Verdict) -> u64
-    ensures { result ≡ judged_word (judged_of verdict) }
-{
-    match verdict {
-        Verdict::Refused(refusal) => refusal_word(refusal),
-        Verdict::Broken(place) => axiom_word(place),
-        Verdict::Allowed => word(Case::GOOD, 0, 0, 0, 0),
-    }
-}
-
-pub fn pair_word(pair: PairRules) -> u64
-    ensures { result ≡ ruled_word (ruled_of pair) }
-{
-    match pair {
-        PairRules::Refused(refusal) => refusal_word(refusal),
-        PairRules::Held(set) => word(Case::GOOD, 0, 0, 0, upper_half(set)),
-    }
-}
-
-pub fn step_word(reply: StepReply) -> u64
-    ensures { result ≡ step_word (step_of reply) }
+pub fn verdict_word(reply: Result<Verdict, Refusal>) -> u64
+    ensures { result ≡ judged_word (judged_by reply) }
 {
     match reply {
-        StepReply::Refused(refusal) => refusal_word(refusal),
-        StepReply::Taken { event, entry } => word(Case::STEP_TAKEN, event, entry, 0, 0),
+        Ok(Verdict::Allowed) => word(Case::GOOD, 0, 0, 0, 0),
+        Ok(Verdict::Broken(place)) => axiom_word(place),
+        Err(refusal) => refusal_word(refusal),
+    }
+}
+
+pub fn pair_word(reply: Result<u16, Refusal>) -> u64
+    ensures { result ≡ ruled_word (ruled_by reply) }
+{
+    match reply {
+        Ok(set) => word(Case::GOOD, 0, 0, 0, upper_half(set)),
+        Err(refusal) => refusal_word(refusal),
+    }
+}
+
+pub fn step_word(reply: Result<StepTaken, Refusal>) -> u64
+    ensures { result ≡ step_word (stepped_by reply) }
+{
+    match reply {
+        Ok(StepTaken { event, entry }) => word(Case::STEP_TAKEN, event, entry, 0, 0),
+        Err(refusal) => refusal_word(refusal),
     }
 }
 
 // The set of fences is the upper half of the word.
-pub fn advice_word(advice: Advice) -> u64
-    ensures { result ≡ advice_word (advice_of advice) }
+pub fn advice_word(reply: Result<Advice, Refusal>) -> u64
+    ensures { result ≡ advice_word (advice_of reply) }
 {
-    match advice {
-        Advice::Refused(refusal) => refusal_word(refusal),
-        Advice::Advised(set) => word(Case::ADVISED, 0, 0, 0, u64::from(set)),
-        Advice::Undecided(set) => word(Case::UNDECIDED, 0, 0, 0, u64::from(set)),
-        Advice::NoHelp => word(Case::NO_HELP, 0, 0, 0, 0),
+    match reply {
+        Ok(Advice::Advised(set)) => word(Case::ADVISED, 0, 0, 0, u64::from(set)),
+        Ok(Advice::Undecided(set)) => word(Case::UNDECIDED, 0, 0, 0, u64::from(set)),
+        Ok(Advice::NoHelp) => word(Case::NO_HELP, 0, 0, 0, 0),
+        Err(refusal) => refusal_word(refusal),
     }
 }
 
@@ -182,68 +195,67 @@ fn ending_word(ending: Ending) -> u64
     }
 }
 
-pub fn reply_word(reply: Reply) -> u64
+pub fn reply_word(reply: Result<Ending, Refusal>) -> u64
     requires { GivenFits reply }
     ensures { result ≡ given_word reply }
 {
     match reply {
-        Reply::Refused(refusal) => refusal_word(refusal),
-        Reply::Answered(ending) => ending_word(ending),
+        Ok(ending) => ending_word(ending),
+        Err(refusal) => refusal_word(refusal),
     }
 }
 
-pub fn text_reply_word(reply: TextReply) -> u64
+pub fn text_reply_word(reply: Result<Ending, TextRefusal>) -> u64
     requires { TextGivenFits reply }
     ensures { result ≡ text_given_word reply }
 {
     match reply {
-        TextReply::Illegal { number, place } => word(
-            Case::REFUSED,
-            number,
-            NO_RECORD,
-            0,
-            place as u64,
-        ),
-        TextReply::Searched(searched) => reply_word(searched),
+        Ok(ending) => ending_word(ending),
+        Err(refusal) => text_refusal_word(refusal),
     }
 }
 
-pub fn outcome_word(reply: OutcomeReply) -> u64
+pub fn outcome_word(reply: Result<Listing, Refusal>) -> u64
     ensures { result ≡ listed_word (λ n. 0) reply }
 {
     match reply {
-        OutcomeReply::Refused(refusal) => refusal_word(refusal),
-        OutcomeReply::Listed { outcomes, values } => word(Case::FOUND, values, 0, 0, 0),
-        OutcomeReply::NoneLeft => word(Case::NONE_LEFT, 0, 0, 0, 0),
-        OutcomeReply::Spent => word(Case::SPENT, 0, 0, 0, 0),
+        Ok(
+            Listing::Listed {
+                outcomes: _,
+                values,
+            },
+        ) => word(Case::FOUND, values, 0, 0, 0),
+        Ok(Listing::NoneLeft) => word(Case::NONE_LEFT, 0, 0, 0, 0),
+        Ok(Listing::Spent) => word(Case::SPENT, 0, 0, 0, 0),
+        Err(refusal) => refusal_word(refusal),
     }
 }
 
 // The same with the number of outcomes as the upper half of the word.
-pub fn outcomes_word(reply: OutcomeReply) -> u64
+pub fn outcomes_word(reply: Result<Listing, Refusal>) -> u64
     ensures { result ≡ listed_word (λ n. n) reply }
 {
     match reply {
-        OutcomeReply::Refused(refusal) => refusal_word(refusal),
-        OutcomeReply::Listed { outcomes, values } => word(
+        Ok(Listing::Listed { outcomes, values }) => word(
             Case::FOUND,
             values,
             0,
             0,
             u64::from(outcomes),
         ),
-        OutcomeReply::NoneLeft => word(Case::NONE_LEFT, 0, 0, 0, 0),
-        OutcomeReply::Spent => word(Case::SPENT, 0, 0, 0, 0),
+        Ok(Listing::NoneLeft) => word(Case::NONE_LEFT, 0, 0, 0, 0),
+        Ok(Listing::Spent) => word(Case::SPENT, 0, 0, 0, 0),
+        Err(refusal) => refusal_word(refusal),
     }
 }
 
-pub fn decision_word(decision: Decision) -> u64
-    requires { DecisionFits decision }
-    ensures { result ≡ decided_word decision }
+pub fn decision_word(reply: Result<Option<usize>, Refusal>) -> u64
+    requires { DecisionFits reply }
+    ensures { result ≡ decided_word reply }
 {
-    match decision {
-        Decision::Refused(refusal) => refusal_word(refusal),
-        Decision::Found(len) => word(Case::FOUND, len as u8, 0, 0, 0),
-        Decision::NoneLeft => word(Case::NONE_LEFT, 0, 0, 0, 0),
+    match reply {
+        Ok(Some(len)) => word(Case::FOUND, len as u8, 0, 0, 0),
+        Ok(None) => word(Case::NONE_LEFT, 0, 0, 0, 0),
+        Err(refusal) => refusal_word(refusal),
     }
 }

@@ -14,7 +14,6 @@ use Rattle.decode.specs.Decoded.{decoded}
 use Rattle.refusals.specs.Lines.{Refused, accepted, first_line, unless, reply_unless}
 use Rattle.refusals.proofs.InRange.{block-asks-range, text-asks-range}
 use Rattle.refusals.specs.declared.Refusal.{Refusal}
-use Rattle.refusals.specs.declared.Refusal.TheVariants.{None}
 use Rattle.refusals.specs.TableLines.{text_line7, table_lines_by}
 use Rattle.refusals.proofs.LineLaws.{whole-off, place-off}
 use Rattle.refusals.proofs.TablePassed.{TablePassed, table-passed-by}
@@ -34,11 +33,9 @@ use Rattle.machine.proofs.MachineLaws.{tso-table}
 use Rattle.model.specs.Prefixes.{clean}
 use Rattle.model.specs.Following.{meets}
 use Rattle.text.specs.Texts.{lines_as, text_lines, text_refusal, table_of_text, text_table, condition_of}
-use Rattle.text.specs.TextRefusals.{text_refusal_of}
 use Rattle.text.specs.Accepted.{IfAccepted}
-use Rattle.text.specs.declared.TextRefusal.{TextRefusal}
-use Rattle.text.specs.declared.TextRefusal.TheVariants as text
-use Rattle.search.specs.declared.Reply as code
+use Rattle.witness_walk.specs.declared.Ending.{Ending}
+use Rattle.std.specs.Prelude.{Option as Option·, Result}
 use Rattle.search.specs.Begins.{SearchesFor}
 use Rattle.search.specs.Replies.{reply_of, length_of, table_reply, buffer_after, prefix_length}
 use Rattle.answers.specs.Candidate.{candidate_lines, order_lines}
@@ -48,7 +45,6 @@ use Rattle.steps.specs.Replies.{StepAnswer, IfTso, answer_to, step_lines, step_r
 use Rattle.advice.specs.Advice.{Advice, advice}
 use Rattle.advising.specs.Replies.{advice_lines, table_advice}
 use Rattle.states.specs.Decisions.{next_witness}
-use Rattle.deciding.specs.declared.Decision.{Decision}
 use Rattle.deciding.specs.Replies.{decision_lines, table_decision, decided_buffer, decision_of, order_length, decided_length, Decides}
 use Rattle.bench.specs.Candidate.{verdict_lines, verdict_of, returns_lines, returns_refusal, returns_buffer}
 use Rattle.bench.specs.PairRules.{rules_lines, rules_of}
@@ -163,7 +159,7 @@ module _ (s start out : List ℕ) (b : ℕ) where
   text-declined = search-declined (of_text s) start out b
 
   -- the words are those of the condition, which the search is for
-  pub text-answered : (t : Table) (words : List ℕ) (len : ℕ) (r : code.Reply) (after : List ℕ) → text_refusal s ≡ accepted →
+  pub text-answered : (t : Table) (words : List ℕ) (len : ℕ) (r : Result Ending Refusal) (after : List ℕ) → text_refusal s ≡ accepted →
       t ≡ text_table s → IfAccepted s t words len → SearchesFor t (take len words) start out b r after →
       (reply_of r after ≡ text_reply s start out b)
       × ((after ≡ text_buffer s start out b) × (length_of r ≡ prefix_length (text_reply s start out b)))
@@ -175,10 +171,6 @@ module _ (s start out : List ℕ) (b : ℕ) where
       (subst (λ (x : Table). let g = table_reply x (clean x) (meets x (condition_of s)) start out b in
       (reply_of r after ≡ g) × ((after ≡ buffer_after g out) × (length_of r ≡ prefix_length g)))
       (e ∙ ap (λ (q : Refused). unless q (table_of_text s) no_table) ok) (h.reply, (h.buffer, h.length)))
-
--- a text isn't refused where the code says so
-pub text-accepted : (r : TextRefusal) (l : Refusal) (q : Refused) → text_refusal_of r ≡ q → r ≡ text.Table l → l ≡ None → q ≡ accepted
-text-accepted r l q e f g = sym e ∙ ap text_refusal_of (f ∙ ap text.Table g)
 
 -- what reading promised of one that isn't refused
 module _ (s : List ℕ) (t : Table) (words : List ℕ) (len : ℕ) (known : IfAccepted s t words len) (ok : text_refusal s ≡ accepted) where
@@ -241,7 +233,7 @@ module _ (s start out : List ℕ) where
       (h, (ap (λ (r : Reply Refused (Option (List ℕ))). decided_buffer r out) h, ap order_length h))
 
   -- it doesn't: the table's line and its witnesses decide
-  pub decide-answered : (t : Table) (r : Decision) (after : List ℕ) → read_refusal s ≡ accepted → t ≡ decoded s →
+  pub decide-answered : (t : Table) (r : Result (Option· ℕ) Refusal) (after : List ℕ) → read_refusal s ≡ accepted → t ≡ decoded s →
       Decides (table_decision t start out) out after r →
       (decision_of r after ≡ decide_reply s start out)
       × ((after ≡ decide_buffer s start out) × (decided_length r ≡ order_length (decide_reply s start out)))

@@ -30,7 +30,9 @@ use Rattle.outcomes.specs.Outcomes.{readers, outcome_length, outcomes, Listing, 
 use Rattle.outcomes.specs.Listings.{previous_after, given_by, said_none_left, previous, all_given, exhausted, IsOutcome}
 use Rattle.outcomes.proofs.OutcomeLaws.{outcomes-each, outcomes-ascending, outcomes-nonempty}
 use Rattle.outcomes.proofs.ListingLaws.{Stepped, step-still, step-offered, Steps, all-given, all-ended}
-use Rattle.outcome_listing.specs.declared.OutcomeReply as code
+use Rattle.outcome_listing.specs.declared.Listing as code
+use Rattle.refusals.specs.declared.Refusal.{Refusal}
+use Rattle.std.specs.Prelude.{Result}
 use Rattle.outcome_listing.specs.Replies.{outcome_too_short, outcome_lines, room_for, table_listing, places_after, listing_of, values_in, values_of}
 use Rattle.lists.proofs.SomeLaws.{some-found}
 use Rattle.bench.proofs.EntryLaws.{good-read}
@@ -62,7 +64,7 @@ module _ (most : ℕ) (s p out : List ℕ) (b : ℕ) where
       told (refused q) (entry-declined (decoded s).count (reading_lines s) _ _ q e n) (refused q) out 0 (refl, (refl, refl))
 
   -- it doesn't: the lines of the call and the listing decide
-  pub listing-answered : (t : Table) (r : code.OutcomeReply) (after· : List ℕ) → read_refusal s ≡ accepted → t ≡ decoded s →
+  pub listing-answered : (t : Table) (r : Result code.Listing Refusal) (after· : List ℕ) → read_refusal s ≡ accepted → t ≡ decoded s →
       (let a = table_listing t most p out b in (listing_of r after· ≡ a) × ((after· ≡ places_after a out) × (values_of r ≡ values_in a))) →
       (listing_of r after· ≡ reply) × ((after· ≡ listing_buffer most s p out b) × (values_of r ≡ values_in reply))
   unfolding listing_buffer listing_reply listing_lines read_refusal table_listing

@@ -1,5 +1,5 @@
 -- The three demands, each one record, over any bytes, lists, numbers and buffers.
-use Rattle.std.specs.Prelude.{ℕ, ◌≤◌, ◌≡◌, Bool, true, false, not, List, [], ◌∷◌, ◌↔◌, ◌≢◌, ◌⊎◌, length}
+use Rattle.std.specs.Prelude.{ℕ, ◌≤◌, ◌≡◌, Bool, true, false, not, List, [], ◌∷◌, ◌↔◌, ◌≢◌, ◌⊎◌, length, Result}
 use Rattle.std.proofs.Math.Option.{Option, none}
 use Rattle.lists.specs.Lists.{◌∈◌, keep}
 use Rattle.lists.specs.Reply.{Reply, refused, answered}
@@ -23,7 +23,8 @@ use Rattle.machine.specs.Statements.{MachineRight, BuffersRight}
 use Rattle.advice.specs.Advice.{Advice}
 use Rattle.advice.specs.Statements.{AdviceRight}
 use Rattle.text.specs.Texts.{table_of_text, text_lines, text_refusal}
-use Rattle.search.specs.declared.Reply as code
+use Rattle.witness_walk.specs.declared.Ending.{Ending}
+use Rattle.refusals.specs.declared.Refusal.{Refusal}
 use Rattle.search.specs.Replies.{reply_of, length_of, prefix_length}
 use Rattle.bench.specs.Candidate.{verdict_lines, verdict_of, returns_lines, returns_refusal, returns_buffer}
 use Rattle.bench.specs.PairRules.{rules_lines, rules_of}
@@ -127,7 +128,7 @@ pub record Call : Type 0 where
   pub after : List ℕ
 
 -- a call with the code's reply: what `bench::search` and `bench::search_pruned` ensure is what is promised of it
-abbrev pub call_of : (allowance : ℕ) (buffer : List ℕ) → code.Reply → (after : List ℕ) → Call
+abbrev pub call_of : (allowance : ℕ) (buffer : List ℕ) → Result Ending Refusal → (after : List ℕ) → Call
 call_of allowance buffer r after =
     record { allowance = allowance; buffer = buffer; told = reply_of r after; said_length = length_of r; after = after }
 

@@ -5,6 +5,10 @@ use mathlib.Core.Bool.{Bool, true, false, ◌&&◌, ◌||◌, not}
 use mathlib.Core.List.{List}
 use native.Mathlib.Omega.{arith}
 use lib.Dec.{eqb}
+use Rattle.std.specs.Prelude.{Result, Ok, Err}
+use Rattle.refusals.specs.declared.Refusal.{Refusal}
+use Rattle.refusals.specs.declared.Refusal.TheVariants as code
+use Rattle.refusals.specs.Refusals.{refusal_of}
 use Rattle.lists.specs.Below.{some}
 use Rattle.edition.specs.Limits.{Edition, one, two, edition_number, most_events}
 use Rattle.table.specs.declared.Table.{Table}
@@ -30,18 +34,21 @@ some-two f = go (f 0) (f 1) refl refl
     go false false e h = rw (e, h) refl
 
 -- refused by line n: the table is blank
-pub reads-refused : (s : List ℕ) (n : ℕ) (r : Refused) (t : Table) → by_line n ≡ read_refusal s → (r ≡ by_line n) × (t ≡ no_table) → Reads s r t
+pub reads-refused : (s : List ℕ) (n : ℕ) → by_line n ≡ read_refusal s → Reads s (Err (code.Line n))
 unfolding read_table
-reads-refused s n r t e h = (h.0 ∙ e, h.1 ∙ ap (λ (q : Refused). unless q (decoded s) no_table) e)
+reads-refused s n e = (e, ap (λ (q : Refused). unless q (decoded s) no_table) e)
 
-pub reads-as-refused : (e : Edition) (s : List ℕ) (n : ℕ) (r : Refused) (t : Table) → by_line n ≡ edition_refusal e s
-    → (r ≡ by_line n) × (t ≡ no_table) → ReadsAs e s r t
-reads-as-refused e s n r t q h = (h.0 ∙ q, h.1 ∙ ap (λ (x : Refused). unless x (decoded_as e s) no_table) q)
+pub reads-as-refused : (e : Edition) (s : List ℕ) (n : ℕ) → by_line n ≡ edition_refusal e s → ReadsAs e s (Err (code.Line n))
+reads-as-refused e s n q = (q, ap (λ (x : Refused). unless x (decoded_as e s) no_table) q)
 
--- lines 5 to 11 decide
-pub reads-as-table : (e : Edition) (s : List ℕ) (q r : Refused) (t : Table) → q ≡ edition_refusal e s
-    → (r ≡ q) × (t ≡ unless q (decoded_as e s) no_table) → ReadsAs e s r t
-reads-as-table e s q r t k h = (h.0 ∙ k, h.1 ∙ ap (λ (x : Refused). unless x (decoded_as e s) no_table) k)
+-- lines 5 to 11 decide: one of them refuses,
+pub reads-as-declined : (e : Edition) (s : List ℕ) (r : Refusal) → refusal_of r ≡ edition_refusal e s → ReadsAs e s (Err r)
+reads-as-declined e s (code.Line n) q = reads-as-refused e s n q
+reads-as-declined e s (code.Record n k) q = (q, ap (λ (x : Refused). unless x (decoded_as e s) no_table) q)
+
+-- or none does
+pub reads-as-table : (e : Edition) (s : List ℕ) (t : Table) → accepted ≡ edition_refusal e s → t ≡ decoded_as e s → ReadsAs e s (Ok t)
+reads-as-table e s t k h = (k, h ∙ ap (λ (x : Refused). unless x (decoded_as e s) no_table) k)
 
 -- line 4, of a number
 abbrev unknown : ℕ → Bool
@@ -62,10 +69,10 @@ edition-decides e s h1 h2 h3 q =
     (whole-next _ 4 (line4 s) _ _ (states e s q).1
     (ap (λ (d : Edition). first_line (decoded_as d s).count (edition_lines d s)) (sym (states e s q).0)))))
 
-pub reads-edition : (e : Edition) (s : List ℕ) (r : Refused) (t : Table) → line1 s ≡ false → line2 s ≡ false → line3 s ≡ false
-    → byte_at s edition_at ≡ edition_number e → ReadsAs e s r t → Reads s r t
+pub reads-edition : (e : Edition) (s : List ℕ) (r : Result Table Refusal) → line1 s ≡ false → line2 s ≡ false → line3 s ≡ false
+    → byte_at s edition_at ≡ edition_number e → ReadsAs e s r → Reads s r
 unfolding read_table decoded
-reads-edition e s r t h1 h2 h3 q h =
+reads-edition e s r h1 h2 h3 q h =
     let same = edition-decides e s h1 h2 h3 q in (
       h.0 ∙ same,
       h.1 ∙ ap (λ (x : Refused). unless x (decoded_as e s) no_table) same

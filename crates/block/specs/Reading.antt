@@ -1,5 +1,5 @@
 -- Reading a test: refusals 1 to 11 and 21, and the table.
-use Rattle.std.specs.Prelude.{ℕ, ◌+◌, ◌-◌, ◌≡◌, Bool, true, false, ◌&&◌, ◌||◌, not, List, [], ◌∷◌, ◌++◌, length, replicate, eqb, ltb}
+use Rattle.std.specs.Prelude.{ℕ, ◌+◌, ◌-◌, ◌≡◌, Bool, true, false, ◌&&◌, ◌||◌, not, List, [], ◌∷◌, ◌++◌, length, replicate, eqb, ltb, Result, Ok, Err}
 use Rattle.lists.specs.Below.{some}
 use Rattle.edition.specs.Limits.{Edition, one, two, edition_number, most_events, blocks_of, test_length, max_locations, block_length}
 use Rattle.table.specs.declared.Table.{Table}
@@ -8,7 +8,9 @@ use Rattle.checksum.specs.Checksum.{checksum}
 use Rattle.decode.specs.Layout.{byte_at, edition_at, stored_check, edition_of}
 use Rattle.decode.specs.Decoded.{decoded_as, decoded}
 use Rattle.suite_part.specs.Part.{block_of}
+use Rattle.refusals.specs.declared.Refusal.{Refusal}
 use Rattle.refusals.specs.Lines.{Refused, Line, whole, first_line, unless}
+use Rattle.refusals.specs.Refusals.{refused_by}
 use Rattle.refusals.specs.TableLines.{table_lines}
 use Rattle.zero_bytes.specs.ZeroBytes.{bytes_not_zero}
 
@@ -78,10 +80,15 @@ no_table =
 unfoldable pub read_table : List ℕ → Table
 read_table s = unless (read_refusal s) (decoded s) no_table
 
--- a refusal and a table are those of the bytes
-abbrev pub Reads : List ℕ → Refused → Table → Type 0
-Reads s r t = (r ≡ read_refusal s) × (t ≡ read_table s)
+-- the table that was read, else the blank one
+abbrev pub table_of : {E : Type 0} → Result Table E → Table
+table_of (Ok t) = t
+table_of (Err r) = no_table
 
--- a refusal and a table are those of the bytes, if their header block is good and states the edition
-abbrev pub ReadsAs : Edition → List ℕ → Refused → Table → Type 0
-ReadsAs e s r t = (r ≡ edition_refusal e s) × (t ≡ unless (edition_refusal e s) (decoded_as e s) no_table)
+-- the refusal of the bytes, or their table
+abbrev pub Reads : List ℕ → Result Table Refusal → Type 0
+Reads s r = (refused_by r ≡ read_refusal s) × (table_of r ≡ read_table s)
+
+-- the same, if their header block is good and states the edition
+abbrev pub ReadsAs : Edition → List ℕ → Result Table Refusal → Type 0
+ReadsAs e s r = (refused_by r ≡ edition_refusal e s) × (table_of r ≡ unless (edition_refusal e s) (decoded_as e s) no_table)

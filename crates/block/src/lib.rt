@@ -3,22 +3,14 @@
 
 ghost use Rattle.std.specs.Prelude.{◌≤◌, ◌≡◌, length};
 ghost use Rattle.edition.specs.Limits.{one, two, block_length, test_length};
-ghost use Rattle.refusals.specs.Lines.{by_line, unless};
-ghost use Rattle.refusals.specs.Refusals.{refusal_of};
-ghost use Rattle.block.specs.Reading.{no_table, line2, line3, later_check_wrong, read_refusal, read_table, ReadsAs};
+ghost use Rattle.block.specs.Reading.{no_table, line2, line3, later_check_wrong, Reads, ReadsAs};
 
 use decode::{At, MARKER};
 use edition::{EditionOne, EditionTwo};
 use refusals::Refusal;
 use table::Table;
 
-#[derive(Clone, Copy)]
-pub struct Reading {
-    pub refusal: Refusal,
-    pub table: Table,
-}
-
-// The blank table, which a refusal gives.
+// The blank table, which C is given where reading refuses.
 pub fn no_table() -> Table
     ensures { result ≡ no_table }
 {
@@ -31,35 +23,6 @@ pub fn no_table() -> Table
         initial: [0; table::LOCATIONS],
         events: [table::no_event(); table::CAPACITY],
         finals: [0; table::LOCATIONS],
-    }
-}
-
-fn refused(number: u8) -> Reading
-    ensures { (refusal_of result.refusal ≡ by_line number) × (result.table ≡ no_table) }
-{
-    Reading {
-        refusal: Refusal::Line(number),
-        table: no_table(),
-    }
-}
-
-// The table if there is no refusal.
-pub fn table_if(refusal: Refusal, t: Table) -> Reading
-    ensures { (refusal_of result.refusal ≡ refusal_of refusal) × (result.table ≡ unless (refusal_of refusal) t no_table) }
-{
-    match refusal {
-        Refusal::None => Reading {
-            refusal: Refusal::None,
-            table: t,
-        },
-        Refusal::Line(n) => Reading {
-            refusal: Refusal::Line(n),
-            table: no_table(),
-        },
-        Refusal::Record(n, k) => Reading {
-            refusal: Refusal::Record(n, k),
-            table: no_table(),
-        },
     }
 }
 
@@ -77,32 +40,18 @@ pub fn marker_wrong(s: &[u8]) -> bool
     !s.starts_with(&MARKER)
 }
 
-// What edition 1 asks, and the table. A good one isn't handed on, as a call would copy it.
-fn read_one(s: &[u8]) -> Reading
+// What edition 1 asks, and the table.
+fn read_one(s: &[u8]) -> Result<Table, Refusal>
     requires { block_length ≤ length s.now }
-    ensures { ReadsAs one s.now (refusal_of result.refusal) result.table }
+    ensures { ReadsAs one s.now result }
 {
     if s.len() != EditionOne::BLOCK {
-        return refused(1);
+        return Err(Refusal::Line(1));
     }
     let t = decode::decode(s);
-    let refusal = table_lines::refuse(
-        t,
-        t.stated,
-        EditionOne::EVENTS,
-        zero_bytes::bytes_not_zero(s),
-    );
-    match refusal {
-        Refusal::None => Reading {
-            refusal: Refusal::None,
-            table: t,
-        },
-        Refusal::Line(n) => refused(n),
-        Refusal::Record(n, k) => Reading {
-            refusal: Refusal::Record(n, k),
-            table: no_table(),
-        },
-    }
+    let extra = zero_bytes::bytes_not_zero(s);
+    table_lines::refuse(t, t.stated, EditionOne::EVENTS, extra)?;
+    Ok(t)
 }
 
 // The check of a block behind the first.
@@ -114,40 +63,34 @@ fn later_check_wrong(s: &[u8]) -> bool
 }
 
 // What edition 2 asks, and the table.
-fn read_two(s: &[u8]) -> Reading
+fn read_two(s: &[u8]) -> Result<Table, Refusal>
     requires { block_length ≤ length s.now }
-    ensures { ReadsAs two s.now (refusal_of result.refusal) result.table }
+    ensures { ReadsAs two s.now result }
 {
     if s.len() != EditionTwo::TEST {
-        return refused(1);
+        return Err(Refusal::Line(1));
     }
     if later_check_wrong(s) {
-        return refused(2);
+        return Err(Refusal::Line(2));
     }
     let t = wide_records::decode(s);
-    table_if(
-        table_lines::refuse(
-            t,
-            t.stated,
-            EditionTwo::EVENTS,
-            zero_bytes::wide_bytes_not_zero(s),
-        ),
-        t,
-    )
+    let extra = zero_bytes::wide_bytes_not_zero(s);
+    table_lines::refuse(t, t.stated, EditionTwo::EVENTS, extra)?;
+    Ok(t)
 }
 
-// Any bytes: the first refusal of 1 to 11 and 21, and the table, which is blank if there is one.
-pub fn read(s: &[u8]) -> Reading
-    ensures { (refusal_of result.refusal ≡ read_refusal s.now) × (result.table ≡ read_table s.now) }
+// Any bytes: the first refusal of 1 to 11 and 21, or the table.
+pub fn read(s: &[u8]) -> Result<Table, Refusal>
+    ensures { Reads s.now result }
 {
     if s.len() < EditionOne::BLOCK {
-        return refused(1);
+        return Err(Refusal::Line(1));
     }
     if check_wrong(s) {
-        return refused(2);
+        return Err(Refusal::Line(2));
     }
     if marker_wrong(s) {
-        return refused(3);
+        return Err(Refusal::Line(3));
     }
     if s[At::EDITION] == EditionOne::NUMBER {
         return read_one(s);
@@ -155,5 +98,5 @@ pub fn read(s: &[u8]) -> Reading
     if s[At::EDITION] == EditionTwo::NUMBER {
         return read_two(s);
     }
-    refused(4)
+    Err(Refusal::Line(4))
 }

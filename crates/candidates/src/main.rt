@@ -3,8 +3,6 @@
 
 use calls::Calls;
 use console::Line;
-use pair_rules::PairRules;
-use refusals::Refusal;
 use table::EventNo;
 use verdict::{Axiom, Verdict};
 
@@ -52,9 +50,9 @@ fn verdict(rt: &HostRuntime, k: u64, block: &[u8]) {
     let order = calls::list(rt, &mut order);
     let line = calls::begin(rt, k);
     let said = match bench::verdict(block, returned, order) {
-        Verdict::Refused(r) => words::refused(line, r),
-        Verdict::Broken(broken) => axiom(line, broken),
-        Verdict::Allowed => line.text(b"allowed"),
+        Ok(Verdict::Allowed) => line.text(b"allowed"),
+        Ok(Verdict::Broken(broken)) => axiom(line, broken),
+        Err(r) => words::refused(line, r),
     };
     let _ = said.end();
 }
@@ -66,8 +64,8 @@ fn returns(rt: &HostRuntime, k: u64, block: &[u8]) {
     let answer = calls::answer(rt, &mut answer);
     let line = calls::begin(rt, k);
     let said = match bench::returns(block, order, answer) {
-        Refusal::None => line.text(b"written"),
-        refusal => words::refused(line, refusal),
+        Ok(()) => line.text(b"written"),
+        Err(r) => words::refused(line, r),
     };
     calls::end(said, answer);
 }
@@ -79,8 +77,8 @@ fn pair(rt: &HostRuntime, k: u64, block: &[u8]) {
     let b = calls::number(rt);
     let line = calls::begin(rt, k);
     let said = match bench::rules(block, returned, a, b) {
-        PairRules::Refused(r) => words::refused(line, r),
-        PairRules::Held(set) => rules(line, set),
+        Ok(set) => rules(line, set),
+        Err(r) => words::refused(line, r),
     };
     let _ = said.end();
 }

@@ -24,8 +24,8 @@ use Rattle.model.specs.Witness.{witness}
 use Rattle.model.specs.Prefixes.{orders, witnesses}
 use Rattle.search.proofs.CallLaws.{count_small}
 use Rattle.states.specs.Decisions.{first, next_witness}
-use Rattle.deciding.specs.declared.Decision.{Decision}
-use Rattle.deciding.specs.declared.Decision.TheVariants.{Refused as Declined, Found, NoneLeft}
+use Rattle.std.specs.Prelude.{Option as Option·, Some, None, Result, Ok, Err}
+use Rattle.refusals.specs.declared.Refusal.{Refusal}
 use Rattle.deciding.specs.Replies.{decision_lines, decision_of, decided_length, order_length, MemoAfter}
 use Rattle.bench.specs.Decisions.{decide_lines, decide_reply}
 use Rattle.bench.proofs.EntryLaws.{small-read}
@@ -71,7 +71,7 @@ module _ (s start out : List ℕ) where
       go (by_place n p) h = tt
 
   -- the code's reply, by what its entry promises
-  module _ (last : List ℕ) (r : Decision) (e : decision_of r last ≡ decide_reply s start out)
+  module _ (last : List ℕ) (r : Result (Option· ℕ) Refusal) (e : decision_of r last ≡ decide_reply s start out)
       (l : decided_length r ≡ order_length (decide_reply s start out)) where
     counts : decided_length r ≡ order_length (decision_of r last)
     counts = l ∙ ap order_length (sym e)
@@ -79,23 +79,23 @@ module _ (s start out : List ℕ) where
     pub decision-fits : DecisionFits r
     decision-fits = go r counts (subst ReplyFits (sym e) reply-fits)
       where
-        go : (r : Decision) → decided_length r ≡ order_length (decision_of r last) → ReplyFits (decision_of r last) → DecisionFits r
-        go (Declined q) c f = tt
-        go (Found len) c f = omega (arith, c, f)
-        go NoneLeft c f = tt
+        go : (r : Result (Option· ℕ) Refusal) → decided_length r ≡ order_length (decision_of r last) → ReplyFits (decision_of r last) → DecisionFits r
+        go (Err q) c f = tt
+        go (Ok (Some len)) c f = omega (arith, c, f)
+        go (Ok None) c f = tt
 
     pub decision-word : decided_word r ≡ decision_word (decide_reply s start out)
     decision-word = go r counts ∙ ap decision_word e
       where
-        go : (r : Decision) → decided_length r ≡ order_length (decision_of r last) → decided_word r ≡ decision_word (decision_of r last)
-        go (Declined q) c = refl
-        go (Found len) c = ap (λ (n : ℕ). word 7 n 0 0 0) c
-        go NoneLeft c = refl
+        go : (r : Result (Option· ℕ) Refusal) → decided_length r ≡ order_length (decision_of r last) → decided_word r ≡ decision_word (decision_of r last)
+        go (Err q) c = refl
+        go (Ok (Some len)) c = ap (λ (n : ℕ). word 7 n 0 0 0) c
+        go (Ok None) c = refl
 
     pub memo-left : (before after : List ℕ) → MemoAfter before after r → MemoLeft before after (decide_reply s start out)
     memo-left before after h = subst (MemoLeft before after) e (go r h)
       where
-        go : (r : Decision) → MemoAfter before after r → MemoLeft before after (decision_of r last)
-        go (Declined q) h = h
-        go (Found len) h = tt
-        go NoneLeft h = tt
+        go : (r : Result (Option· ℕ) Refusal) → MemoAfter before after r → MemoLeft before after (decision_of r last)
+        go (Err q) h = h
+        go (Ok (Some len)) h = tt
+        go (Ok None) h = tt

@@ -33,14 +33,15 @@ use Rattle.search.specs.Replies.{max_allowance, start_lines, reply_of, length_of
 use Rattle.search.proofs.CallLaws.{count_small}
 use Rattle.bench.specs.Search.{Searched, of_block, of_block_pruned, of_text, lines_to, refusal_to, reply_to, text_reply, text_buffer}
 use Rattle.bench.specs.TextReplies.{text_reply_of, text_length_of}
-use Rattle.bench.specs.declared.TextReply.{TextReply}
-use Rattle.bench.specs.declared.TextReply.TheVariants.{Illegal, Searched as Given}
+use Rattle.std.specs.Prelude.{Result, Ok, Err}
+use Rattle.refusals.specs.declared.Refusal.{Refusal}
+use Rattle.text.specs.declared.TextRefusal.{TextRefusal}
+use Rattle.text.specs.declared.TextRefusal.TheVariants as text
+use Rattle.witness_walk.specs.declared.Ending.{Ending}
 use Rattle.text.specs.Texts.{text_refusal}
 use Rattle.bench.specs.Demands.{Promised, call_of}
 use Rattle.bench.proofs.EntryLaws.{small-read, good-text}
 use Rattle.witness_walk.specs.declared.Ending.TheVariants.{Found, NoneLeft, Spent}
-use Rattle.search.specs.declared.Reply as code
-use Rattle.search.specs.declared.Reply.TheVariants.{Refused as Declined, Answered}
 use Rattle.answer_word.specs.Words.{word, reply_word}
 use Rattle.answer_word.specs.Given.{given_word, text_given_word, GivenFits, TextGivenFits}
 use Rattle.capi.proofs.PlaceLaws.{reply-place}
@@ -122,20 +123,20 @@ module _ (q : Searched) (bounded : Bounded q) (start out : List ℕ) (b : ℕ) w
 
 -- of the code's reply, whose length is that of its prefix
 module _ (out : List ℕ) where
-  fits-given : (r : code.Reply) → length_of r ≡ prefix_length (reply_of r out) → ReplyFits (reply_of r out) → GivenFits r
-  fits-given (Declined q) e f = tt
-  fits-given (Answered (Found len v)) e f = (omega (arith, e, f.0), f.1)
-  fits-given (Answered (NoneLeft v)) e f = f
-  fits-given (Answered (Spent len v)) e f = (omega (arith, e, f.0), f.1)
+  fits-given : (r : Result Ending Refusal) → length_of r ≡ prefix_length (reply_of r out) → ReplyFits (reply_of r out) → GivenFits r
+  fits-given (Err q) e f = tt
+  fits-given (Ok (Found len v)) e f = (omega (arith, e, f.0), f.1)
+  fits-given (Ok (NoneLeft v)) e f = f
+  fits-given (Ok (Spent len v)) e f = (omega (arith, e, f.0), f.1)
 
-  word-given : (r : code.Reply) → length_of r ≡ prefix_length (reply_of r out) → given_word r ≡ reply_word (reply_of r out)
-  word-given (Declined q) e = refl
-  word-given (Answered (Found len v)) e = ap (λ (n : ℕ). word 7 n 0 0 v) e
-  word-given (Answered (NoneLeft v)) e = refl
-  word-given (Answered (Spent len v)) e = ap (λ (n : ℕ). word 9 n 0 0 v) e
+  word-given : (r : Result Ending Refusal) → length_of r ≡ prefix_length (reply_of r out) → given_word r ≡ reply_word (reply_of r out)
+  word-given (Err q) e = refl
+  word-given (Ok (Found len v)) e = ap (λ (n : ℕ). word 7 n 0 0 v) e
+  word-given (Ok (NoneLeft v)) e = refl
+  word-given (Ok (Spent len v)) e = ap (λ (n : ℕ). word 9 n 0 0 v) e
 
 -- a call, by what its entry promises of it
-module _ (q : Searched) (bounded : Bounded q) (start out : List ℕ) (b : ℕ) (after : List ℕ) (r : code.Reply)
+module _ (q : Searched) (bounded : Bounded q) (start out : List ℕ) (b : ℕ) (after : List ℕ) (r : Result Ending Refusal)
     (h : Promised q start (call_of b out r after)) where
   counts : length_of r ≡ prefix_length (reply_of r after)
   counts = h.1.1 ∙ ap prefix_length (sym h.0)
@@ -164,15 +165,16 @@ text-bounded s = record { cleanly = λ p h. h; small = λ ok. (good-text s ok).s
 
 -- the code's reply to a search of a text, by what its entry promises
 module _ (s start out : List ℕ) (b : ℕ) (after : List ℕ) where
-  abbrev Ensured : TextReply → Type 0
+  abbrev Ensured : Result Ending TextRefusal → Type 0
   Ensured r =
       (text_reply_of r after ≡ text_reply s start out b)
       × ((after ≡ text_buffer s start out b) × (text_length_of r ≡ prefix_length (text_reply s start out b)))
 
-  pub text-fits : (r : TextReply) → Ensured r → TextGivenFits r
-  text-fits (Illegal n place) h = reply-place s start out b n place h.0
-  text-fits (Given r) h = given-fits (of_text s) (text-bounded s) start out b after r h
+  pub text-fits : (r : Result Ending TextRefusal) → Ensured r → TextGivenFits r
+  text-fits (Err (text.At n place)) h = reply-place s start out b n place h.0
+  text-fits (Err (text.Table q)) h = tt
+  text-fits (Ok o) h = given-fits (of_text s) (text-bounded s) start out b after (Ok o) h
 
-  pub text-word : (r : TextReply) → Ensured r → text_given_word r ≡ reply_word (text_reply s start out b)
-  text-word (Illegal n place) h = ap reply_word h.0
-  text-word (Given r) h = given_word_lem (of_text s) (text-bounded s) start out b after r h
+  pub text-word : (r : Result Ending TextRefusal) → Ensured r → text_given_word r ≡ reply_word (text_reply s start out b)
+  text-word (Err q) h = ap reply_word h.0
+  text-word (Ok o) h = given_word_lem (of_text s) (text-bounded s) start out b after (Ok o) h

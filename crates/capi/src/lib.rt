@@ -28,9 +28,10 @@ use table::Table;
 pub extern "C" fn ct_read(block: &[u8]) -> u64
     ensures { result ≡ refusal_word (read_refusal block.now) }
 {
-    let reading = bench::read(block);
-    let refusal = reading.refusal;
-    answer_word::refusal_word(refusal)
+    match bench::read(block) {
+        Ok(_) => answer_word::good_word(),
+        Err(refusal) => answer_word::refusal_word(refusal),
+    }
 }
 
 // The table of a block; blank if reading refuses it.
@@ -38,8 +39,10 @@ pub extern "C" fn ct_read(block: &[u8]) -> u64
 pub extern "C" fn ct_table_of(block: &[u8]) -> Table
     ensures { result ≡ read_table block.now }
 {
-    let reading = bench::read(block);
-    reading.table
+    match bench::read(block) {
+        Ok(table) => table,
+        Err(_) => block::no_table(),
+    }
 }
 
 // Writing a block.
@@ -48,7 +51,7 @@ pub extern "C" fn ct_write(t: Table, out: &mut [u8]) -> u64
     ensures value { result ≡ refusal_word (write_refusal t out.old) }
     ensures out_after { out.new ≡ written_block t out.old }
 {
-    answer_word::refusal_word(bench::write(t, out))
+    answer_word::done_word(bench::write(t, out))
 }
 
 // The verdict for a candidate.
@@ -137,7 +140,7 @@ pub extern "C" fn ct_returns(block: &[u8], order: &[u8], out: &mut [u8]) -> u64
     ensures value { result ≡ refusal_word (returns_refusal block.now order.now out.old) }
     ensures out_after { out.new ≡ returns_buffer block.now order.now out.old }
 {
-    answer_word::refusal_word(bench::returns(block, order, out))
+    answer_word::done_word(bench::returns(block, order, out))
 }
 
 // One search call.
@@ -168,9 +171,10 @@ pub extern "C" fn ct_search_pruned(
 pub extern "C" fn ct_read_text(text: &[u8]) -> u64
     ensures { result ≡ refusal_word (text_refusal text.now) }
 {
-    let test = bench::read_text(text);
-    let refusal = test.refusal;
-    answer_word::text_refusal_word(refusal)
+    match bench::read_text(text) {
+        Ok(_) => answer_word::good_word(),
+        Err(refusal) => answer_word::text_refusal_word(refusal),
+    }
 }
 
 // The table of a text; blank if reading refuses it.
@@ -178,8 +182,10 @@ pub extern "C" fn ct_read_text(text: &[u8]) -> u64
 pub extern "C" fn ct_table_of_text(text: &[u8]) -> Table
     ensures { result ≡ text_table text.now }
 {
-    let test = bench::read_text(text);
-    test.table
+    match bench::read_text(text) {
+        Ok(table) => table,
+        Err(_) => block::no_table(),
+    }
 }
 
 // One search call on a text.
@@ -243,7 +249,7 @@ pub extern "C" fn ct_part_of(suite: &[u8], k: u64) -> Part
         }
     } else {
         Part {
-            word: answer_word::refusal_word(Refusal::None),
+            word: answer_word::good_word(),
             offset: EditionOne::BLOCK as u64 * k,
             length: block.len() as u64,
         }

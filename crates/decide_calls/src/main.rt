@@ -5,7 +5,7 @@ ghost use Rattle.std.specs.Prelude.{◌≤◌, length};
 
 use calls::Calls;
 use console::Line;
-use deciding::Decision;
+use refusals::Refusal;
 
 // A call for the least witness that is greater than a start.
 const NEXT: u8 = b'N';
@@ -15,15 +15,19 @@ const MEMO: usize = 7;
 
 const PREFILL: u64 = 0xEEEE_EEEE_EEEE_EEEE;
 
-fn said(line: Line, decision: Decision) -> Line {
+fn said(line: Line, decision: Result<Option<usize>, Refusal>) -> Line {
     match decision {
-        Decision::Refused(r) => words::refused(line, r),
-        Decision::Found(len) => line.text(b"found, length ").number(len as u64),
-        Decision::NoneLeft => line.text(b"none left"),
+        Ok(Some(len)) => line.text(b"found, length ").number(len as u64),
+        Ok(None) => line.text(b"none left"),
+        Err(r) => words::refused(line, r),
     }
 }
 
-fn same_words(rt: &HostRuntime, a: Decision, b: Decision) -> bool {
+fn same_words(
+    rt: &HostRuntime,
+    a: Result<Option<usize>, Refusal>,
+    b: Result<Option<usize>, Refusal>,
+) -> bool {
     let one = said(Line::output(rt), a);
     let other = said(Line::output(rt), b);
     console::front(&one.bytes, one.len) == console::front(&other.bytes, other.len)
@@ -36,7 +40,7 @@ fn with_memo(
     block: &[u8],
     start: &[u8],
     answer: &[u8],
-    decision: Decision,
+    decision: Result<Option<usize>, Refusal>,
     memo: &mut [u64],
 )
     requires { length answer.now ≤ 255 }

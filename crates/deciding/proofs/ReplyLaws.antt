@@ -2,7 +2,7 @@
 use Prim.Native.Nat.{ℕ, zero, suc, ◌≤◌, ◌<◌}
 use native.Mathlib.Omega.{arith}
 use mathlib.Core.Path.{◌≡◌, refl, sym, ap, subst, ◌∙◌}
-use mathlib.Core.Bool.{Bool, true, false, not, true≢false}
+use mathlib.Core.Bool.{Bool, true, false, not}
 use mathlib.Core.List.{List, [], ◌∷◌, ◌++◌}
 use mathlib.Core.Option.{Option, none, some as just}
 use lib.ListN.{length, get_or, take, drop, replicate, length-replicate, get_or-replicate}
@@ -10,12 +10,14 @@ use lib.Seq.{length-take-le, take_at}
 use lib.Count.{ones}
 use lib.Dec.{ltb}
 use borrow.Author.Tests.{eq-eqb, ne_eqb, ltb-true, ltb-false}
-use Rattle.lists.specs.Reply.{Reply, refused, answered}
+use Rattle.std.specs.Prelude.{Result, Ok, Err, Some, None, Option as Optional}
+use Rattle.lists.specs.Reply.{answered}
 use Rattle.lists.specs.Below.{some}
 use Rattle.table.specs.declared.Table.{Table}
 use Rattle.table.specs.Events.{memory_count}
+use Rattle.refusals.specs.declared.Refusal.{Refusal}
 use Rattle.refusals.specs.declared.Refusal.TheVariants.{Line}
-use Rattle.refusals.specs.Lines.{Refused, first_line}
+use Rattle.refusals.specs.Lines.{first_line}
 use Rattle.candidate.specs.CandidateLines.{order_too_short}
 use Rattle.order_facts.specs.Facts.{unmet}
 use Rattle.fact_rows.specs.FactRows.{mask, Facts, set_row, unmet_word}
@@ -27,11 +29,9 @@ use Rattle.states.proofs.ReachedLaws.{reached-start}
 use Rattle.states.proofs.DecisionLaws.{decision-found, decision-none, decision-unmet}
 use Rattle.search.proofs.CallLaws.{counted, count_small}
 use Rattle.state_test.specs.Board.{Board, Starts, kind_row, memory_word}
-use Rattle.deciding.specs.declared.Decision as code
-use Rattle.deciding.specs.declared.Decision.TheVariants.{Refused as Declined, Found, NoneLeft}
 use Rattle.deciding.specs.Memo.{Blank}
 use Rattle.deciding.specs.Deciding.{GoesOn}
-use Rattle.deciding.specs.Replies.{decision_lines, table_decision, MemoAfter, Decides}
+use Rattle.deciding.specs.Replies.{decision_lines, table_decision, Decides}
 use Rattle.deciding.proofs.MemoLaws.{cleared}
 
 -- past its end a list has no word
@@ -63,14 +63,14 @@ reached {t} {s = s} b k c =
 
 module _ (t : Table) (p : List ℕ) where
   -- there is none
-  pub decides-none : {out : List ℕ} → next_witness t p ≡ none → Decides (answered (next_witness t p)) out out NoneLeft
-  decides-none {out} h = subst (λ (o : Option (List ℕ)). Decides (answered o) out out NoneLeft) (sym h)
+  pub decides-none : {out : List ℕ} → next_witness t p ≡ none → Decides (answered (next_witness t p)) out out (Ok None)
+  decides-none {out} h = subst (λ (o : Option (List ℕ)). Decides (answered o) out out (Ok None)) (sym h)
       (record { replied = refl; buffer = refl; length = refl })
 
   -- it was written to the front
   pub decides-found : {out after : List ℕ} (order : List ℕ) (n : ℕ) → n ≤ length order → after ≡ take n order ++ drop n out →
-      next_witness t p ≡ just (take n order) → Decides (answered (next_witness t p)) out after (Found n)
-  decides-found {out} {after} order n l q h = subst (λ (o : Option (List ℕ)). Decides (answered o) out after (Found n)) (sym h)
+      next_witness t p ≡ just (take n order) → Decides (answered (next_witness t p)) out after (Ok (Some n))
+  decides-found {out} {after} order n l q h = subst (λ (o : Option (List ℕ)). Decides (answered o) out after (Ok (Some n))) (sym h)
       (record {
         replied = ap (λ (w : List ℕ). answered (just w)) (ap (take n) q ∙ take_at (take n order) (drop n out) n long);
         buffer = q ∙ ap (λ (m : ℕ). take n order ++ drop m out) (sym long);
@@ -116,25 +116,11 @@ long-enough t out h = ltb-false (length out) (memory_count t) h
 
 -- A buffer that is too short.
 pub decides-short : (t : Table) (p out : List ℕ) → order_too_short t out ≡ true →
-    Decides (table_decision t p out) out out (Declined (Line 16))
+    Decides (table_decision t p out) out out (Err (Line 16))
 unfolding table_decision decision_lines first_line
 decides-short t p out h = rw h (record { replied = refl; buffer = refl; length = refl })
 
-pub decides-long : (t : Table) (p out after : List ℕ) (r : code.Decision) → order_too_short t out ≡ false →
+pub decides-long : (t : Table) (p out after : List ℕ) (r : Result (Optional ℕ) Refusal) → order_too_short t out ≡ false →
     Decides (answered (next_witness t p)) out after r → Decides (table_decision t p out) out after r
 unfolding table_decision decision_lines first_line
 decides-long t p out after r h d = rw h d
-
--- an answer is no refusal
-pub memo-free : (before after out last : List ℕ) (o : Option (List ℕ)) (r : code.Decision) → Decides (answered o) out last r →
-    MemoAfter before after r
-memo-free before after out last o (Declined r) d = absurd (no_answer d.replied)
-  where
-    no_answer : {q : Refused} → ◌≡◌ {A = Reply Refused (Option (List ℕ))} (refused q) (answered o) → ⊥
-    no_answer e = true≢false (ap is-refusal e)
-      where
-        is-refusal : Reply Refused (Option (List ℕ)) → Bool
-        is-refusal (refused q) = true
-        is-refusal (answered a) = false
-memo-free before after out last o (Found n) d = tt
-memo-free before after out last o NoneLeft d = tt

@@ -1,5 +1,5 @@
 -- A memo of words: each that isn't 0 is a state that doesn't complete. It can only forget.
-use Rattle.std.specs.Prelude.{ℕ, ◌+◌, ◌*◌, ◌<◌, ◌^◌, ◌≡◌, Bool, true, false, List, ◌⊎◌, length, get_or}
+use Rattle.std.specs.Prelude.{ℕ, ◌+◌, ◌*◌, ◌<◌, ◌≡◌, Bool, true, false, List, ◌⊎◌, get_or}
 use Rattle.table.specs.declared.Table.{Table}
 use Rattle.states.specs.declared.State.{State}
 use Rattle.states.specs.Completions.{Told}

@@ -1,7 +1,7 @@
 // Deciding a table by its states: whether a state completes, the least run from a state, and the next one after a list.
 #![tactic(auto)]
 
-ghost use Rattle.std.specs.Prelude.{◌+◌, ◌≤◌, ◌<◌, ◌≡◌, ◌&&◌, length, ltb};
+ghost use Rattle.std.specs.Prelude.{◌+◌, ◌≤◌, ◌<◌, ◌≡◌, ◌&&◌, length, ltb, Ok};
 ghost use Rattle.state_test.specs.Board.{Boarded};
 ghost use Rattle.masks.specs.Bit.{bit};
 ghost use Rattle.lists.specs.Reply.{answered};
@@ -216,23 +216,15 @@ fn clear(memo: &mut [u64])
     memo.fill(0);
 }
 
-// The answer; a witness stands at the front of the answer buffer.
-#[derive(Clone, Copy)]
-pub enum Decision {
-    Refused(Refusal),
-    Found(usize),
-    NoneLeft,
-}
-
-// A decision on a table, with a memo that says nothing.
-fn decide_by(t: Table, start: &[u8], out: &mut [u8], memo: &mut [u64]) -> Decision
+// A decision on a table, with a memo that says nothing: the length of the witness, if there is one.
+fn decide_by(t: Table, start: &[u8], out: &mut [u8], memo: &mut [u64]) -> Option<usize>
     requires { GoodTable t × (memory_count t ≤ length out.old) × Blank memo.old }
-    ensures { Decides (answered (next_witness t start.now)) out.old out.new result }
+    ensures { Decides (answered (next_witness t start.now)) out.old out.new (Ok result) }
 {
     let s = event_sets::of_table(t);
     let facts = facts::of_table(t, s);
     if facts[SETS][UNMET] != 0 {
-        return Decision::NoneLeft;
+        return None;
     }
     let ties = state_test::ties_of(t, s);
     let first = state_test::first(&facts);
@@ -249,9 +241,9 @@ fn decide_by(t: Table, start: &[u8], out: &mut [u8], memo: &mut [u64]) -> Decisi
         0,
     ) {
         search::copy(&order, count as usize, out);
-        Decision::Found(count as usize)
+        Some(count as usize)
     } else {
-        Decision::NoneLeft
+        None
     }
 }
 
@@ -264,26 +256,32 @@ fn is_short(t: Table, out: &[u8]) -> bool
 }
 
 // A decision on a table, with a lent memo: whatever is in it, and however long it is, the answer is the same.
-pub fn decide_with(t: Table, start: &[u8], out: &mut [u8], memo: &mut [u64]) -> Decision
+// The length is that of the witness, which stands at the front of the answer buffer; none is left where there is no length.
+pub fn decide_with(
+    t: Table,
+    start: &[u8],
+    out: &mut [u8],
+    memo: &mut [u64],
+) -> Result<Option<usize>, Refusal>
     requires { GoodTable t }
     ensures decides { Decides (table_decision t start.now out.old) out.old out.new result }
     ensures memo_after { MemoAfter memo.old memo.new result }
 {
     if is_short(t, &*out) {
-        return Decision::Refused(Refusal::Line(16));
+        return Err(Refusal::Line(16));
     }
     clear(memo);
-    decide_by(t, start, out, memo)
+    Ok(decide_by(t, start, out, memo))
 }
 
 // A decision on a table, with a memo of its own.
-pub fn decide(t: Table, start: &[u8], out: &mut [u8]) -> Decision
+pub fn decide(t: Table, start: &[u8], out: &mut [u8]) -> Result<Option<usize>, Refusal>
     requires { GoodTable t }
     ensures { Decides (table_decision t start.now out.old) out.old out.new result }
 {
     if is_short(t, &*out) {
-        return Decision::Refused(Refusal::Line(16));
+        return Err(Refusal::Line(16));
     }
     let mut memo = [0u64; WORDS];
-    decide_by(t, start, out, &mut memo)
+    Ok(decide_by(t, start, out, &mut memo))
 }

@@ -4,6 +4,7 @@
 use console::{Command, Line};
 use edition::EditionTwo;
 use reads_from::{INITIALLY, NOTHING};
+use refusals::Refusal;
 use table::{Event, EventNo, LocationNo, Table};
 use verdict::{Axiom, Verdict};
 
@@ -156,7 +157,7 @@ fn load_value(
     r: EventNo,
 ) -> Line {
     let mut list = [NOTHING; LIST];
-    bench::returns(test, order, &mut list);
+    let _ = bench::returns(test, order, &mut list);
     let reader = event(Line::output(rt).text(b"load value: "), r).text(b" returns from ");
     let given = source(reader, entry(returned, r)).text(b", but the order makes it return from ");
     describe(source(given, entry(&list, r)), t, r)
@@ -214,30 +215,28 @@ fn broken(
     }
 }
 
-fn verdict(rt: &HostRuntime, t: &Table, test: &[u8], returned: &[u8], order: &[u8]) -> Line {
-    match bench::verdict(test, returned, order) {
-        Verdict::Refused(r) => words::explained(Line::output(rt), r),
-        Verdict::Broken(axiom) => broken(rt, axiom, t, test, returned, order),
+// The input begins with the test, as a suite does. The returned list has an entry for each event of it, and what follows is the
+// order. The refusal of a test comes before those of the lists.
+fn verdict(rt: &HostRuntime, input: &[u8]) -> Result<Line, Refusal> {
+    let test = suite_walk::test(input, 0);
+    let lists = console::past(input, test.len());
+    let t = bench::read(test)?;
+    let n = usize::from(t.count);
+    let returned = console::front(lists, n);
+    let order = console::past(lists, n);
+    Ok(match bench::verdict(test, returned, order)? {
         Verdict::Allowed => {
             Line::output(rt).text(b"allowed: the order gives the stated outcome and breaks no rule")
         }
-    }
+        Verdict::Broken(axiom) => broken(rt, axiom, &t, test, returned, order),
+    })
 }
 
-// The input begins with the test, as a suite does. The returned list has an entry for each event of it, and what follows is the
-// order. A test that is refused has no event, and its refusal comes before those of the lists.
 fn candidate(rt: &HostRuntime, input: &[u8]) {
-    let test = suite_walk::test(input, 0);
-    let lists = console::past(input, test.len());
-    let t = bench::read(test).table;
-    let n = usize::from(t.count);
-    let said = verdict(
-        rt,
-        &t,
-        test,
-        console::front(lists, n),
-        console::past(lists, n),
-    );
+    let said = match verdict(rt, input) {
+        Ok(line) => line,
+        Err(r) => words::explained(Line::output(rt), r),
+    };
     if let Err(e) = said.end() {
         console::output_failed(rt, b"explain", e);
     }

@@ -3,7 +3,8 @@
 
 use calls::Calls;
 use console::Line;
-use outcome_listing::OutcomeReply;
+use outcome_listing::Listing;
+use refusals::Refusal;
 
 // A call for the next outcome, and one for as many of the next ones as the buffer has room for.
 const OUTCOME: u8 = b'O';
@@ -40,12 +41,12 @@ fn listed(line: Line, outcomes: u8, values: u8) -> Line {
         .text(b" values")
 }
 
-fn said(line: Line, reply: OutcomeReply) -> Line {
+fn said(line: Line, reply: Result<Listing, Refusal>) -> Line {
     match reply {
-        OutcomeReply::Refused(r) => words::refused(line, r),
-        OutcomeReply::Listed { outcomes, values } => listed(line, outcomes, values),
-        OutcomeReply::NoneLeft => line.text(b"none left"),
-        OutcomeReply::Spent => line.text(b"spent"),
+        Ok(Listing::Listed { outcomes, values }) => listed(line, outcomes, values),
+        Ok(Listing::NoneLeft) => line.text(b"none left"),
+        Ok(Listing::Spent) => line.text(b"spent"),
+        Err(r) => words::refused(line, r),
     }
 }
 

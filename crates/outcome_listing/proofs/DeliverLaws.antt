@@ -22,14 +22,15 @@ use Rattle.table.specs.Counts.{Small}
 use Rattle.event_sets.specs.Sets.{sets_of}
 use Rattle.prefixes.specs.Listed.{after}
 use Rattle.model.specs.Prefixes.{clean_prefixes}
+use Rattle.refusals.specs.declared.Refusal.{Refusal}
 use Rattle.refusals.specs.Lines.{Refused, accepted, by_line, first_line, reply_unless}
 use Rattle.refusals.proofs.LineLaws.{none_here, whole_here, whole-next}
 use Rattle.search.specs.Replies.{max_allowance}
 use Rattle.outcome_listing.proofs.StandLaws.{readers-mask}
 use Rattle.outcomes.specs.Outcomes.{readers, outcome_length, outcomes, Listing, given, spent, offered, listing}
-use Rattle.std.specs.Prelude.{Option, Some, None}
-use Rattle.outcome_listing.specs.declared.OutcomeReply.{OutcomeReply}
-use Rattle.outcome_listing.specs.declared.OutcomeReply.TheVariants.{Listed, NoneLeft, Spent}
+use Rattle.std.specs.Prelude.{Option, Some, None, Result, Ok}
+use Rattle.outcome_listing.specs.declared.Listing as code
+use Rattle.outcome_listing.specs.declared.Listing.TheVariants.{Listed, NoneLeft, Spent}
 use Rattle.outcome_listing.specs.Gathering.{Gathers, Within, Fits, gathered_as}
 use Rattle.outcome_listing.specs.Replies.{previous_wrong, outcome_too_short, outcome_lines, room_for, table_listing, places_after, listing_of, values_in, values_of}
 
@@ -46,7 +47,7 @@ module _ (w n : ℕ) (kept out after· : List ℕ) (some : n ≡ 0 → ⊥) (roo
       go zero h = absurd (h refl)
       go (suc m) h = refl
 
-  pub rows-said : listing_of (Listed n w) after· ≡ answered (offered (rows w n kept))
+  pub rows-said : listing_of (Ok (Listed n w)) after· ≡ answered (offered (rows w n kept))
   rows-said =
       ap {B = Reply Refused Listing} (λ (l : List (List ℕ)). answered (given l))
       (ap (rows w n) as-flat
@@ -82,10 +83,10 @@ unfolding outcome_length readers
 width_small t h = omega (arith, below-few (reads t) t.count, h.events, h.locations)
 
 -- what was gathered is handed out by the reply, with the buffer then
-abbrev pub Delivers : ℕ → (kept out : List ℕ) → OutcomeReply → List ℕ → Option ℕ → Type 0
+abbrev pub Delivers : ℕ → (kept out : List ℕ) → code.Listing → List ℕ → Option ℕ → Type 0
 Delivers w kept out r after· g =
-    (listing_of r after· ≡ answered (gathered_as g w kept))
-    × ((after· ≡ places_after (answered (gathered_as g w kept)) out) × (values_of r ≡ values_in (answered (gathered_as g w kept))))
+    (listing_of (Ok r) after· ≡ answered (gathered_as g w kept))
+    × ((after· ≡ places_after (answered (gathered_as g w kept)) out) × (values_of (Ok r) ≡ values_in (answered (gathered_as g w kept))))
 
 module _ (w : ℕ) (kept out : List ℕ) (g : Option ℕ) where
   pub none-delivered : (n : ℕ) → g ≡ Some n → n ≡ 0 → Delivers w kept out NoneLeft out g
@@ -170,7 +171,7 @@ module _ (t : Table) (most : ℕ) (previous out : List ℕ) (b : ℕ) where
           refused-by 17 (whole-next _ _ _ _ _ fits (whole-next _ _ _ _ _ (le-ltb _ _ room) (whole_here _ _ _ _ (lt-ltb _ _ h))))
 
       -- no line refuses: what was gathered is handed out
-      pub listing-replied : b ≤ max_allowance → (a : Listing) → a ≡ listing t previous (room_for t most out) b → (r : OutcomeReply) (after· : List ℕ) →
+      pub listing-replied : b ≤ max_allowance → (a : Listing) → a ≡ listing t previous (room_for t most out) b → (r : Result code.Listing Refusal) (after· : List ℕ) →
           (listing_of r after· ≡ answered a) × ((after· ≡ places_after (answered a) out) × (values_of r ≡ values_in (answered a))) →
           (listing_of r after· ≡ reply) × ((after· ≡ places_after reply out) × (values_of r ≡ values_in reply))
       unfolding table_listing outcome_lines outcome_too_short

@@ -1,15 +1,16 @@
 -- A call that lists outcomes of a table: refusals 12, 16 and 17, the reply, and what it leaves in the answer buffer.
-use Rattle.std.specs.Prelude.{ℕ, ◌/◌, min, Bool, not, ◌&&◌, List, [], ◌∷◌, length, eqb, ltb}
+use Rattle.std.specs.Prelude.{ℕ, ◌/◌, min, Bool, not, ◌&&◌, List, [], ◌∷◌, length, eqb, ltb, Result, Ok, Err}
 use Rattle.lists.specs.Reply.{Reply, refused, answered}
 use Rattle.sorted_rows.specs.Sorted.{rows, flat}
 use Rattle.table.specs.declared.Table.{Table}
+use Rattle.refusals.specs.declared.Refusal.{Refusal}
 use Rattle.refusals.specs.Lines.{Refused, Line, whole, first_line, reply_unless}
 use Rattle.refusals.specs.Refusals.{refusal_of}
 use Rattle.candidate.specs.Buffers.{written}
 use Rattle.search.specs.Replies.{max_allowance}
 use Rattle.outcomes.specs.Outcomes.{outcome_length, Listing, given, none_left, spent, listing}
-use Rattle.outcome_listing.specs.declared.OutcomeReply.{OutcomeReply}
-use Rattle.outcome_listing.specs.declared.OutcomeReply.TheVariants.{Refused as Declined, Listed, NoneLeft, Spent}
+use Rattle.outcome_listing.specs.declared.Listing as code
+use Rattle.outcome_listing.specs.declared.Listing.TheVariants.{Listed, NoneLeft, Spent}
 
 -- one call gives so many outcomes at most, where it is asked for as many as its buffer has room for
 abbrev pub most_outcomes : ℕ
@@ -45,11 +46,11 @@ places_after (answered none_left) out = out
 places_after (answered spent) out = out
 
 -- the code's reply in the paper's words; the outcomes are read off the buffer
-abbrev pub listing_of : OutcomeReply → List ℕ → Reply Refused Listing
-listing_of (Declined r) out = refused (refusal_of r)
-listing_of (Listed n w) out = answered (given (rows w n out))
-listing_of NoneLeft out = answered none_left
-listing_of Spent out = answered spent
+abbrev pub listing_of : Result code.Listing Refusal → List ℕ → Reply Refused Listing
+listing_of (Err r) out = refused (refusal_of r)
+listing_of (Ok (Listed n w)) out = answered (given (rows w n out))
+listing_of (Ok NoneLeft) out = answered none_left
+listing_of (Ok Spent) out = answered spent
 
 -- the number of values of an outcome in a reply; 0 where it has none
 abbrev pub values_in : Reply Refused Listing → ℕ
@@ -60,8 +61,8 @@ values_in (answered none_left) = 0
 values_in (answered spent) = 0
 
 -- the number that the code's reply says
-abbrev pub values_of : OutcomeReply → ℕ
-values_of (Declined r) = 0
-values_of (Listed n w) = w
-values_of NoneLeft = 0
-values_of Spent = 0
+abbrev pub values_of : Result code.Listing Refusal → ℕ
+values_of (Err r) = 0
+values_of (Ok (Listed n w)) = w
+values_of (Ok NoneLeft) = 0
+values_of (Ok Spent) = 0

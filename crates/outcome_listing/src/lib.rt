@@ -2,7 +2,7 @@
 // above the previous one, handed out.
 #![tactic(auto)]
 
-ghost use Rattle.std.specs.Prelude.{◌+◌, ◌*◌, ◌≤◌, ◌<◌, ◌≡◌, not, ◌&&◌, eqb, length, take};
+ghost use Rattle.std.specs.Prelude.{◌+◌, ◌*◌, ◌≤◌, ◌<◌, ◌≡◌, not, ◌&&◌, eqb, length, take, Ok};
 ghost use Rattle.std.specs.Int.Count.{ones};
 ghost use Rattle.lists.specs.Reply.{answered};
 ghost use Rattle.edition.specs.Limits.{max_locations};
@@ -30,10 +30,9 @@ use successors::SLOTS;
 use table::{CAPACITY, Table};
 use witness_walk::{Ending, Path};
 
-// A reply; the outcomes stand one behind the other at the front of the answer buffer.
+// The answer; the outcomes stand one behind the other at the front of the answer buffer.
 #[derive(Clone, Copy)]
-pub enum OutcomeReply {
-    Refused(Refusal),
+pub enum Listing {
     Listed { outcomes: u8, values: u8 },
     NoneLeft,
     Spent,
@@ -183,20 +182,20 @@ fn gather_of(
 }
 
 // Hands out what was gathered.
-fn deliver(gathered: Option<usize>, width: u8, kept: &[u16], out: &mut [u16]) -> OutcomeReply
+fn deliver(gathered: Option<usize>, width: u8, kept: &[u16], out: &mut [u16]) -> Listing
     requires { Within most_outcomes gathered × Fits width (length kept.now) gathered × Fits width (length out.old) gathered }
-    ensures out_after { listing_of result out.new ≡ answered (gathered_as gathered width kept.now) }
+    ensures out_after { listing_of (Ok result) out.new ≡ answered (gathered_as gathered width kept.now) }
     ensures out_after_2 { out.new ≡ places_after (answered (gathered_as gathered width kept.now)) out.old }
-    ensures result_value { values_of result ≡ values_in (answered (gathered_as gathered width kept.now)) }
+    ensures result_value { values_of (Ok result) ≡ values_in (answered (gathered_as gathered width kept.now)) }
 {
     match gathered {
-        None => OutcomeReply::Spent,
+        None => Listing::Spent,
         Some(n) => {
             if n == 0 {
-                return OutcomeReply::NoneLeft;
+                return Listing::NoneLeft;
             }
             sorted_rows::copy_rows(kept, usize::from(width) * n, out);
-            OutcomeReply::Listed {
+            Listing::Listed {
                 outcomes: n as u8,
                 values: width,
             }
@@ -226,7 +225,7 @@ pub fn list(
     out: &mut [u16],
     most: usize,
     allowance: u64,
-) -> OutcomeReply
+) -> Result<Listing, Refusal>
     requires { GoodTable t × (0 < t.locations) × (most ≤ most_outcomes) }
     ensures out_after { listing_of result out.new ≡ table_listing t most previous.now out.old allowance }
     ensures out_after_2 { out.new ≡ places_after (table_listing t most previous.now out.old allowance) out.old }
@@ -237,13 +236,13 @@ pub fn list(
     let values = values_of(readers, t.locations);
     let width = usize::from(values);
     if is_no_outcome(previous.len(), width) {
-        return OutcomeReply::Refused(Refusal::Line(12));
+        return Err(Refusal::Line(12));
     }
     if out.len() < width {
-        return OutcomeReply::Refused(Refusal::Line(16));
+        return Err(Refusal::Line(16));
     }
     if search::ALLOWANCE < allowance {
-        return OutcomeReply::Refused(Refusal::Line(17));
+        return Err(Refusal::Line(17));
     }
     let asked = Asked {
         readers,
@@ -251,5 +250,5 @@ pub fn list(
     };
     let mut kept = [0u16; PLACES];
     let gathered = gather_of(t, s, asked, previous, &mut kept, allowance);
-    deliver(gathered, values, &kept, out)
+    Ok(deliver(gathered, values, &kept, out))
 }

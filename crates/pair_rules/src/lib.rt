@@ -5,19 +5,12 @@ ghost use Rattle.std.specs.Prelude.{◌≡◌, length};
 ghost use Rattle.refusals.specs.Lines.{first_line, reply_unless};
 ghost use Rattle.rule_sets.specs.RuleMask.{rules_in};
 ghost use Rattle.table.specs.Counts.{Small};
-ghost use Rattle.pair_rules.specs.PairRules.{returned_lines, rules_between, ruled_of};
+ghost use Rattle.pair_rules.specs.PairRules.{returned_lines, rules_between, ruled_by};
 
 use refusals::Refusal;
 use table::{EventNo, Table};
 
-// The rules of a pair: a set, bit r - 1 for rule r.
-#[derive(Clone, Copy)]
-pub enum PairRules {
-    Refused(Refusal),
-    Held(u16),
-}
-
-// The set of rules by which a is before b; empty for numbers that are no memory events in program order.
+// The set of rules by which a is before b, bit r - 1 for rule r; empty for numbers that are no memory events in program order.
 fn held(t: Table, returned: &[u8], a: u64, b: u64) -> u16
     requires { Small t × (length returned.now ≡ t.count) }
     ensures { rules_in result ≡ rules_between t returned.now a b }
@@ -37,15 +30,15 @@ fn held(t: Table, returned: &[u8], a: u64, b: u64) -> u16
 }
 
 // The rules of a pair of a table: 12, 14, then the set.
-pub fn pair(t: Table, returned: &[u8], a: u64, b: u64) -> PairRules
+pub fn pair(t: Table, returned: &[u8], a: u64, b: u64) -> Result<u16, Refusal>
     requires { Small t }
-    ensures { ruled_of result ≡ reply_unless (first_line t.count (returned_lines t returned.now)) (rules_between t returned.now a b) }
+    ensures { ruled_by result ≡ reply_unless (first_line t.count (returned_lines t returned.now)) (rules_between t returned.now a b) }
 {
     if returned.len() != usize::from(t.count) {
-        return PairRules::Refused(Refusal::Line(12));
+        return Err(Refusal::Line(12));
     }
     if candidate::returned_wrong(t, returned) {
-        return PairRules::Refused(Refusal::Line(14));
+        return Err(Refusal::Line(14));
     }
-    PairRules::Held(held(t, returned, a, b))
+    Ok(held(t, returned, a, b))
 }

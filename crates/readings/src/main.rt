@@ -1,15 +1,12 @@
 // Reads a stream of frames (a length of two bytes, then that many bytes) and prints what reading each gives.
 #![tactic(auto)]
 
-use refusals::Refusal;
-
 // What reading frame k gives.
 fn line(rt: &HostRuntime, k: u64, s: &[u8]) {
     let begun = calls::begin(rt, k);
-    let reading = block::read(s);
-    let said = match reading.refusal {
-        Refusal::None => table_line::fields(begun, &reading.table),
-        refusal => words::refused(begun, refusal),
+    let said = match block::read(s) {
+        Ok(t) => table_line::fields(begun, &t),
+        Err(r) => words::refused(begun, r),
     };
     let _ = said.end();
 }

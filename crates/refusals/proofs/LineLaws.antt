@@ -5,6 +5,9 @@ use mathlib.Core.Bool.{Bool, true, false}
 use mathlib.Core.List.{List, [], ◌∷◌}
 use mathlib.Core.Logic.{◌≢◌}
 use native.Mathlib.Omega.{arith}
+use Rattle.refusals.specs.declared.Refusal.{Refusal}
+use Rattle.refusals.specs.declared.Refusal.TheVariants as code
+use Rattle.refusals.specs.Refusals.{refusal_of}
 use Rattle.lists.specs.Below.{lowest, some}
 use Rattle.lists.proofs.SomeLaws.{some_below, none_below}
 use Rattle.refusals.specs.Lines.{Refused, accepted, by_line, by_record, by_place}
@@ -19,6 +22,11 @@ record-refuses k i e = let z : ◌≡◌ {A = ℕ} 0 1 = cc in omega arith
 
 pub place-refuses : (k p : ℕ) → by_place k p ≢ accepted
 place-refuses k p e = let z : ◌≡◌ {A = ℕ} 0 1 = cc in omega arith
+
+-- every refusal of the code is one
+pub refuses : (r : Refusal) → refusal_of r ≢ accepted
+refuses (code.Line n) = line-refuses n
+refuses (code.Record n k) = record-refuses n k.0
 
 -- no line is left
 pub none_here : (n : ℕ) → accepted ≡ first_line n []

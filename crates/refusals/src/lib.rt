@@ -6,9 +6,9 @@ ghost use Rattle.refusals.specs.TableLines.{outside};
 
 use table::EventNo;
 
+// Why something is refused: the number of the first line that holds, and the record that it names, if it names one.
 #[derive(Clone, Copy)]
 pub enum Refusal {
-    None,
     Line(u8),
     Record(u8, EventNo),
 }

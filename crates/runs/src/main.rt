@@ -3,13 +3,14 @@
 
 use calls::Calls;
 use console::Line;
-use steps::StepReply;
+use steps::StepTaken;
 
 // A step behind a list of them.
 const STEP: u8 = b'M';
 
-fn taken(line: Line, event: u8, entry: u8) -> Line {
-    line.item(b"taken, event ", event).item(b", entry ", entry)
+fn taken(line: Line, step: StepTaken) -> Line {
+    line.item(b"taken, event ", step.event)
+        .item(b", entry ", step.entry)
 }
 
 fn step(rt: &HostRuntime, k: u64, block: &[u8]) {
@@ -18,8 +19,8 @@ fn step(rt: &HostRuntime, k: u64, block: &[u8]) {
     let number = calls::number(rt);
     let line = calls::begin(rt, k);
     let said = match bench::step(block, steps, number) {
-        StepReply::Refused(r) => words::refused(line, r),
-        StepReply::Taken { event, entry } => taken(line, event, entry),
+        Ok(step) => taken(line, step),
+        Err(r) => words::refused(line, r),
     };
     let _ = said.end();
 }

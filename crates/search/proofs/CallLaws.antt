@@ -43,10 +43,9 @@ use Rattle.witness_walk.specs.Running.{AtMost, Enters, Watching, Follows, LeftOf
 use Rattle.witness_walk.proofs.EntersLaws.{enters-always}
 use Rattle.witness_walk.proofs.RunLaws.{clean_is}
 use Rattle.refusals.specs.declared.Refusal.TheVariants.{Line as Line·}
-use Rattle.std.specs.Prelude.{Option, Some, None}
+use Rattle.std.specs.Prelude.{Option, Some, None, Result, Ok, Err}
+use Rattle.refusals.specs.declared.Refusal.{Refusal}
 use Rattle.search.specs.Begins.{Beginning, BeginsAs, Replied, Searches, SearchesFor}
-use Rattle.search.specs.declared.Reply as code
-use Rattle.search.specs.declared.Reply.TheVariants.{Refused as Declined, Answered}
 use Rattle.search.specs.Replies.{reply_of, length_of, max_allowance, start_lines, table_reply, buffer_after, prefix_length}
 
 -- a bound on a prefix's entries may be raised
@@ -149,11 +148,11 @@ count_small t small =
     (ones-le slots (memory_mask t) (memory-mask-small t slots (omega (arith, small.events))))
 
 -- the length that a reply says is within the buffer that its prefix is read off
-pub length-within : (r : code.Reply) (out : List ℕ) → length_of r ≡ prefix_length (reply_of r out) → length_of r ≤ length out
-length-within (Declined q) out e = omega arith
-length-within (Answered (Found len v)) out e = omega (arith, e, length-take len out)
-length-within (Answered (NoneLeft v)) out e = omega arith
-length-within (Answered (Spent len v)) out e = omega (arith, e, length-take len out)
+pub length-within : (r : Result Ending Refusal) (out : List ℕ) → length_of r ≡ prefix_length (reply_of r out) → length_of r ≤ length out
+length-within (Err q) out e = omega arith
+length-within (Ok (Found len v)) out e = omega (arith, e, length-take len out)
+length-within (Ok (NoneLeft v)) out e = omega arith
+length-within (Ok (Spent len v)) out e = omega (arith, e, length-take len out)
 
 -- How a start begins: it isn't clean;
 pub begins-unclean : {facts : List (List ℕ)} {preds : List ℕ} {mem watched : ℕ} (start order goods : List ℕ) → clean_by preds mem start ≡ false →
@@ -189,13 +188,13 @@ module _ {t : Table} {facts : List (List ℕ)} {preds : List ℕ} {mem watched :
   -- refused by a line
   line-replied : {words : List ℕ} (n : ℕ) → ((enters : List ℕ → Bool) → Enters t watched enters →
       by_line n ≡ first_line t.count (start_lines t (reachable (clean t) enters) start out b)) →
-      Searches t facts words watched start out b (Declined (Line· n)) out
+      Searches t facts words watched start out b (Err (Line· n)) out
   line-replied n f outcome enters e k =
       let r = call-refused t (reachable (clean t) enters) outcome start out b n (f enters e) in
       record { reply = r.0; buffer = r.1.0; length = r.1.1 }
 
   pub unlisted-replied : {words : List ℕ} (order goods : List ℕ) (begun : Option Path) → ((p : Path) → begun ≡ Some p → ⊥) →
-      BeginsAs facts preds mem watched start order goods begun → Searches t facts words watched start out b (Declined (Line· 15)) out
+      BeginsAs facts preds mem watched start order goods begun → Searches t facts words watched start out b (Err (Line· 15)) out
   unlisted-replied order goods (Some p) n u = absurd (n p refl)
   unlisted-replied order goods None n u = line-replied 15 (λ enters e. start-refused t (reachable (clean t) enters) start out b (u t enters (watch e)))
 
@@ -203,14 +202,14 @@ module _ {t : Table} {facts : List (List ℕ)} {preds : List ℕ} {mem watched :
     listed : {enters : List ℕ → Bool} → Enters t watched enters → reachable (clean t) enters start ≡ true
     listed {enters} e = ap (reachable (clean t) enters) (sym g.same) ∙ (g.begun t enters (watch e)).reached
 
-    pub room-replied : {words : List ℕ} → length out < memory_count t → Searches t facts words watched start out b (Declined (Line· 16)) out
+    pub room-replied : {words : List ℕ} → length out < memory_count t → Searches t facts words watched start out b (Err (Line· 16)) out
     room-replied h = line-replied 16 (λ enters e. room-refused t (reachable (clean t) enters) start out b (listed e) h)
 
-    pub allowance-replied : {words : List ℕ} → memory_count t ≤ length out → max_allowance < b → Searches t facts words watched start out b (Declined (Line· 17)) out
+    pub allowance-replied : {words : List ℕ} → memory_count t ≤ length out → max_allowance < b → Searches t facts words watched start out b (Err (Line· 17)) out
     allowance-replied h k = line-replied 17 (λ enters e. allowance-refused t (reachable (clean t) enters) start out b (listed e) h k)
 
     -- the answer of the walk, handed out
-    pub walk-replied : {words : List ℕ} (o : Ending) (last : List ℕ) (r : code.Reply) (left : List ℕ) → memory_count t ≤ length out → b ≤ max_allowance →
+    pub walk-replied : {words : List ℕ} (o : Ending) (last : List ℕ) (r : Result Ending Refusal) (left : List ℕ) → memory_count t ≤ length out → b ≤ max_allowance →
         Runs facts words preds mem watched order goods from b o last →
         (reply_of r left ≡ answered (answer_of o last)) × ((left ≡ buffer_after (answered (answer_of o last)) out)
         × (length_of r ≡ prefix_length (answered (answer_of o last)))) →
@@ -226,14 +225,14 @@ module _ {t : Table} {facts : List (List ℕ)} {preds : List ℕ} {mem watched :
 
 -- along the clean prefixes, where no reader is watched
 pub replied-always : {t : Table} {facts : List (List ℕ)} {words : List ℕ} (outcome : List ℕ → Bool) (start out : List ℕ) (b : ℕ)
-    {r : code.Reply} {after : List ℕ} → Wants t facts words outcome → Searches t facts words 0 start out b r after →
+    {r : Result Ending Refusal} {after : List ℕ} → Wants t facts words outcome → Searches t facts words 0 start out b r after →
     Replied t (clean t) outcome start out b r after
 replied-always {t} outcome start out b {r} {after} w s =
     subst (λ (ok : List ℕ → Bool). Replied t ok outcome start out b r after) (reachable-always (clean t))
     (s outcome always (enters-always t) (record { wanted = w; witnesses = λ gmo h. refl }))
 
 -- for a condition, whose words these are
-pub replied-for : {t : Table} {facts : List (List ℕ)} {words : List ℕ} (start out : List ℕ) (b : ℕ) {r : code.Reply} {after : List ℕ} →
+pub replied-for : {t : Table} {facts : List (List ℕ)} {words : List ℕ} (start out : List ℕ) (b : ℕ) {r : Result Ending Refusal} {after : List ℕ} →
     Values t facts → Searches t facts words 0 start out b r after → SearchesFor t words start out b r after
 replied-for {t} {facts} start out b {r} {after} v s c e f known =
     replied-always {words = words_of c} (meets t c) start out b (code-wanted t facts c f known v)

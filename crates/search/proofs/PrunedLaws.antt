@@ -22,7 +22,9 @@ use Rattle.pruning.proofs.UnprunedLaws.{witness-unspoiled}
 use Rattle.event_sets.specs.Sets.{sets_of}
 use Rattle.engine.specs.Entered.{entered, reachable}
 use Rattle.witness_walk.specs.Running.{Enters}
-use Rattle.search.specs.declared.Reply as code
+use Rattle.std.specs.Prelude.{Result}
+use Rattle.refusals.specs.declared.Refusal.{Refusal}
+use Rattle.witness_walk.specs.declared.Ending.{Ending}
 use Rattle.search.specs.Begins.{Replied, Searches}
 
 -- the test by which the second engine enters a prefix
@@ -71,7 +73,7 @@ module _ {t : Table} (good : GoodTable t) {watched : ℕ} (every : watched ≡ (
       step false false h = refl
 
   -- a call along the prefixes that aren't pruned
-  pub replied-pruned : {facts : List (List ℕ)} (start out : List ℕ) (b : ℕ) {r : code.Reply} {after : List ℕ} →
+  pub replied-pruned : {facts : List (List ℕ)} (start out : List ℕ) (b : ℕ) {r : Result Ending Refusal} {after : List ℕ} →
       Searches t facts [] watched start out b r after → Replied t (unpruned t) (stated_outcome t) start out b r after
   unfolding witness
   replied-pruned start out b {r} {after} s =

@@ -1,17 +1,17 @@
 -- A search call on a table: refusals 15, 16 and 17, the reply, and what it leaves in the answer buffer.
-use Rattle.std.specs.Prelude.{ℕ, Bool, List, [], ◌∷◌, length, ltb}
+use Rattle.std.specs.Prelude.{ℕ, Bool, List, [], ◌∷◌, length, ltb, Result, Ok, Err}
 use Rattle.lists.specs.Reply.{Reply, refused, answered}
 use Rattle.table.specs.declared.Table.{Table}
+use Rattle.refusals.specs.declared.Refusal.{Refusal}
 use Rattle.refusals.specs.Lines.{Refused, Line, whole, first_line, reply_unless}
 use Rattle.refusals.specs.Refusals.{refusal_of}
 use Rattle.prefixes.specs.Answer.{Answer, found, none_left, spent}
 use Rattle.model.specs.Prefixes.{search_by}
 use Rattle.candidate.specs.CandidateLines.{start_wrong, order_too_short}
 use Rattle.candidate.specs.Buffers.{written}
+use Rattle.witness_walk.specs.declared.Ending.{Ending}
 use Rattle.witness_walk.specs.declared.Ending.TheVariants.{Found, NoneLeft, Spent}
 use Rattle.witness_walk.specs.Ending.{answer_of}
-use Rattle.search.specs.declared.Reply as code
-use Rattle.search.specs.declared.Reply.TheVariants.{Refused as Declined, Answered}
 
 -- "allowance above 1,000,000,000"
 abbrev pub max_allowance : ℕ
@@ -36,9 +36,9 @@ buffer_after (answered (none_left v)) out = out
 buffer_after (answered (spent p v)) out = written p out
 
 -- the code's reply in the paper's words; a prefix stands at the front of the buffer
-abbrev pub reply_of : code.Reply → List ℕ → Reply Refused Answer
-reply_of (Declined r) out = refused (refusal_of r)
-reply_of (Answered o) out = answered (answer_of o out)
+abbrev pub reply_of : Result Ending Refusal → List ℕ → Reply Refused Answer
+reply_of (Err r) out = refused (refusal_of r)
+reply_of (Ok o) out = answered (answer_of o out)
 
 -- the length of the prefix that a reply hands out, which "is part of the answer"; 0 where none is
 abbrev pub prefix_length : Reply Refused Answer → ℕ
@@ -48,8 +48,8 @@ prefix_length (answered (none_left v)) = 0
 prefix_length (answered (spent p v)) = length p
 
 -- the length that the code's reply says
-abbrev pub length_of : code.Reply → ℕ
-length_of (Declined r) = 0
-length_of (Answered (Found len v)) = len
-length_of (Answered (NoneLeft v)) = 0
-length_of (Answered (Spent len v)) = len
+abbrev pub length_of : Result Ending Refusal → ℕ
+length_of (Err r) = 0
+length_of (Ok (Found len v)) = len
+length_of (Ok (NoneLeft v)) = 0
+length_of (Ok (Spent len v)) = len

@@ -1,7 +1,7 @@
 // A search of a table: what a call is refused for, the walk to the next witness, and its prefix handed out.
 #![tactic(auto)]
 
-ghost use Rattle.std.specs.Prelude.{◌≤◌, ◌++◌, ◌≡◌, length, take, drop};
+ghost use Rattle.std.specs.Prelude.{◌≤◌, ◌++◌, ◌≡◌, length, take, drop, Ok};
 ghost use Rattle.successors.specs.CleanMasks.{slots};
 ghost use Rattle.lists.specs.Reply.{answered};
 ghost use Rattle.model.specs.Witness.{stated_outcome};
@@ -23,13 +23,6 @@ use successors::SLOTS;
 use table::{CAPACITY, Table};
 use witness_walk::{Ending, Path};
 
-// A reply to a search call; the prefix of Found and Spent stands at the front of the answer buffer.
-#[derive(Clone, Copy)]
-pub enum Reply {
-    Refused(Refusal),
-    Answered(Ending),
-}
-
 // The largest allowance.
 pub const ALLOWANCE: u64 = 1_000_000_000;
 
@@ -42,21 +35,21 @@ pub fn copy(order: &[u8; SLOTS], len: usize, out: &mut [u8])
 }
 
 // Hands out the prefix of an ending; "none left" writes nothing.
-fn deliver(ending: Ending, order: &[u8; SLOTS], out: &mut [u8]) -> Reply
+fn deliver(ending: Ending, order: &[u8; SLOTS], out: &mut [u8]) -> Ending
     requires { (length order.now ≡ slots) × AtMost slots ending × AtMost (length out.old) ending }
-    ensures out_after { reply_of result out.new ≡ answered (answer_of ending order.now) }
+    ensures out_after { reply_of (Ok result) out.new ≡ answered (answer_of ending order.now) }
     ensures out_after_2 { out.new ≡ buffer_after (answered (answer_of ending order.now)) out.old }
-    ensures result_value { length_of result ≡ prefix_length (answered (answer_of ending order.now)) }
+    ensures result_value { length_of (Ok result) ≡ prefix_length (answered (answer_of ending order.now)) }
 {
     match ending {
         Ending::Found { len, visited } => {
             copy(order, len, out);
-            Reply::Answered(Ending::Found { len, visited })
+            Ending::Found { len, visited }
         }
-        Ending::NoneLeft { visited } => Reply::Answered(Ending::NoneLeft { visited }),
+        Ending::NoneLeft { visited } => Ending::NoneLeft { visited },
         Ending::Spent { len, visited } => {
             copy(order, len, out);
-            Reply::Answered(Ending::Spent { len, visited })
+            Ending::Spent { len, visited }
         }
     }
 }
@@ -82,7 +75,8 @@ fn begin(
 }
 
 // A search call on a table for what the words say (without words, the outcome that it states), along the prefixes that a walk
-// gets to which watches these readers: refusals 15, 16 and 17, the reply and the buffer.
+// gets to which watches these readers: refusals 15, 16 and 17, how it ended and the buffer, at whose front the prefix of Found
+// and Spent stands.
 pub fn search_by(
     t: Table,
     s: Sets,
@@ -92,7 +86,7 @@ pub fn search_by(
     start: &[u8],
     out: &mut [u8],
     allowance: u64,
-) -> Reply
+) -> Result<Ending, Refusal>
     requires { GoodTable t × (s ≡ sets_of t) × Facts t facts.now }
     ensures { Searches t facts.now words.now watched start.now out.old allowance result out.new }
 {
@@ -105,22 +99,22 @@ pub fn search_by(
         facts, &pred, &succ, mem, watched, start, &mut order, &mut goods,
     );
     let Some(from) = begun else {
-        return Reply::Refused(Refusal::Line(15));
+        return Err(Refusal::Line(15));
     };
     if out.len() < u32::count_ones(mem) as usize {
-        return Reply::Refused(Refusal::Line(16));
+        return Err(Refusal::Line(16));
     }
     if ALLOWANCE < allowance {
-        return Reply::Refused(Refusal::Line(17));
+        return Err(Refusal::Line(17));
     }
     let ending = witness_walk::walk(
         facts, words, &pred, &succ, mem, watched, &mut order, &mut goods, from, allowance,
     );
-    deliver(ending, &order, out)
+    Ok(deliver(ending, &order, out))
 }
 
 // A search call on a table along its clean prefixes: no reader is watched.
-pub fn search(t: Table, start: &[u8], out: &mut [u8], allowance: u64) -> Reply
+pub fn search(t: Table, start: &[u8], out: &mut [u8], allowance: u64) -> Result<Ending, Refusal>
     requires { GoodTable t }
     ensures out_after { reply_of result out.new ≡ table_reply t (clean t) (stated_outcome t) start.now out.old allowance }
     ensures out_after_2 { out.new ≡ buffer_after (table_reply t (clean t) (stated_outcome t) start.now out.old allowance) out.old }
@@ -133,7 +127,12 @@ pub fn search(t: Table, start: &[u8], out: &mut [u8], allowance: u64) -> Reply
 }
 
 // The same along the prefixes that aren't pruned: every reader is watched.
-pub fn search_pruned(t: Table, start: &[u8], out: &mut [u8], allowance: u64) -> Reply
+pub fn search_pruned(
+    t: Table,
+    start: &[u8],
+    out: &mut [u8],
+    allowance: u64,
+) -> Result<Ending, Refusal>
     requires { GoodTable t }
     ensures out_after { reply_of result out.new ≡ table_reply t (unpruned t) (stated_outcome t) start.now out.old allowance }
     ensures out_after_2 { out.new ≡ buffer_after (table_reply t (unpruned t) (stated_outcome t) start.now out.old allowance) out.old }
@@ -146,7 +145,13 @@ pub fn search_pruned(t: Table, start: &[u8], out: &mut [u8], allowance: u64) -> 
 }
 
 // A search call on a table along its clean prefixes, for the condition of the words.
-pub fn search_for(t: Table, words: &[u32], start: &[u8], out: &mut [u8], allowance: u64) -> Reply
+pub fn search_for(
+    t: Table,
+    words: &[u32],
+    start: &[u8],
+    out: &mut [u8],
+    allowance: u64,
+) -> Result<Ending, Refusal>
     requires { GoodTable t }
     ensures { SearchesFor t words.now start.now out.old allowance result out.new }
 {

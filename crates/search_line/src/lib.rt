@@ -3,7 +3,7 @@
 
 use calls::{LIST, PREFILL};
 use console::Line;
-use search::Reply;
+use refusals::Refusal;
 use witness_walk::Ending;
 
 fn visited(line: Line, n: u64) -> Line {
@@ -14,7 +14,7 @@ fn prefix(line: Line, n: u64, len: usize) -> Line {
     visited(line, n).text(b", length ").number(len as u64)
 }
 
-fn ended(line: Line, o: Ending) -> Line {
+pub fn ended(line: Line, o: Ending) -> Line {
     match o {
         Ending::Found { len, visited: n } => prefix(line.text(b"found, "), n, len),
         Ending::NoneLeft { visited: n } => visited(line.text(b"none left, "), n),
@@ -22,10 +22,10 @@ fn ended(line: Line, o: Ending) -> Line {
     }
 }
 
-pub fn replied(line: Line, reply: Reply) -> Line {
+pub fn replied(line: Line, reply: Result<Ending, Refusal>) -> Line {
     match reply {
-        Reply::Refused(r) => words::refused(line, r),
-        Reply::Answered(o) => ended(line, o),
+        Ok(o) => ended(line, o),
+        Err(r) => words::refused(line, r),
     }
 }
 

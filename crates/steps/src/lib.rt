@@ -9,7 +9,7 @@ ghost use Rattle.table.specs.Events.{capacity, hart};
 ghost use Rattle.model.specs.Axioms.{breaks_pair};
 ghost use Rattle.machine.specs.Machine.{unsure};
 ghost use Rattle.steps.specs.Steps.{Made, Room, OfBuffers, IsNewest, may_read, returned_by, Issues, Drains, Steps, Begun, RunsAs};
-ghost use Rattle.steps.specs.Replies.{IfTso, step_reply, step_of};
+ghost use Rattle.steps.specs.Replies.{IfTso, step_reply, stepped_by};
 
 use event_sets::{HARTS, Sets};
 use masks::{has, highest_set, less, mask_if, one};
@@ -42,11 +42,11 @@ struct Taken {
     done: Done,
 }
 
-// A reply to a step: its event, and what a returned list holds for it.
+// A step that is answered: its event, and what a returned list holds for it.
 #[derive(Clone, Copy)]
-pub enum StepReply {
-    Refused(Refusal),
-    Taken { event: u8, entry: u8 },
+pub struct StepTaken {
+    pub event: u8,
+    pub entry: u8,
 }
 
 // The lowest event of hart h in the mask. Any number may be a hart's.
@@ -205,31 +205,27 @@ fn run(m: Machine, steps: &[u8], order: &mut [u8], rf: &mut [u8]) -> Option<Done
 }
 
 // The step b behind the list.
-fn step_behind(m: Machine, steps: &[u8], b: u64) -> StepReply
+fn step_behind(m: Machine, steps: &[u8], b: u64) -> Result<StepTaken, Refusal>
     requires { Made m }
-    ensures { step_of result ≡ step_reply m.table steps.now b }
+    ensures { stepped_by result ≡ step_reply m.table steps.now b }
 {
     let mut order = [0u8; SLOTS];
     let mut rf = [NOTHING; SLOTS];
-    let Some(done) = run(m, steps, &mut order, &mut rf) else {
-        return StepReply::Refused(Refusal::Line(24));
-    };
-    let Some(taken) = take(m, done, &mut order, &mut rf, b) else {
-        return StepReply::Refused(Refusal::Line(24));
-    };
-    StepReply::Taken {
+    let done = run(m, steps, &mut order, &mut rf).ok_or(Refusal::Line(24))?;
+    let taken = take(m, done, &mut order, &mut rf, b).ok_or(Refusal::Line(24))?;
+    Ok(StepTaken {
         event: taken.event.0,
         entry: returned_from(&rf, taken.event),
-    }
+    })
 }
 
 // The step b of a table behind a list of steps: 24, or its event and that event's entry.
-pub fn answer(t: Table, steps: &[u8], b: u64) -> StepReply
+pub fn answer(t: Table, steps: &[u8], b: u64) -> Result<StepTaken, Refusal>
     requires { Small t × IfTso t }
-    ensures { step_of result ≡ step_reply t steps.now b }
+    ensures { stepped_by result ≡ step_reply t steps.now b }
 {
     if t.model != Model::RVTSO {
-        return StepReply::Refused(Refusal::Line(24));
+        return Err(Refusal::Line(24));
     }
     let sets = event_sets::of_table(t);
     let pred = precedence::predecessors(t, sets);

@@ -5,13 +5,14 @@ use mathlib.Core.Path.{◌≡◌, sym, ap, ◌∙◌}
 use lib.ListN.{length, get_or, take, length-append, length-take}
 use native.Mathlib.Omega.{arith}
 use Rattle.edition.specs.Limits.{two, most_events}
+use Rattle.std.specs.Prelude.{Result, Ok, Err}
 use Rattle.lists.specs.Reply as reply
 use Rattle.refusals.specs.Lines as lines
+use Rattle.refusals.specs.declared.Refusal.{Refusal}
 use Rattle.refusals.specs.Refusals.{refusal_of}
 use Rattle.prefixes.specs.Answer.{Answer}
+use Rattle.witness_walk.specs.declared.Ending.{Ending}
 use Rattle.witness_walk.specs.declared.Ending.TheVariants.{Found, NoneLeft, Spent}
-use Rattle.search.specs.declared.Reply.{Reply}
-use Rattle.search.specs.declared.Reply.TheVariants.{Refused, Answered}
 use Rattle.search.specs.Replies.{reply_of, length_of, prefix_length}
 use Rattle.search.proofs.CallLaws.{length-within}
 use Rattle.bench.specs.Search.{search_reply}
@@ -37,9 +38,9 @@ visited-short : (n : ℕ) → length (visited n) ≤ 28
 visited-short n = omega (arith, length-append (decimal n) (ascii " visited"), digits-short 20 n)
 
 -- No reply's text is longer, since no test has more than 30 events.
-reply-short : (reply : Reply) (out : List ℕ) → length out ≤ most_events two → Bytes out → length (reply_text (reply_of reply out)) ≤ 200
-reply-short (Refused r) out h b = omega (arith, digits-short 20 (number_of (refusal_of r)))
-reply-short (Answered (Found len n)) out h b =
+reply-short : (reply : Result Ending Refusal) (out : List ℕ) → length out ≤ most_events two → Bytes out → length (reply_text (reply_of reply out)) ≤ 200
+reply-short (Err r) out h b = omega (arith, digits-short 20 (number_of (refusal_of r)))
+reply-short (Ok (Found len n)) out h b =
     omega (
       arith,
       length-append (ascii "allowed, " ++ visited n ++ ascii ", order") (spaced (take len out)),
@@ -48,16 +49,16 @@ reply-short (Answered (Found len n)) out h b =
       spaced-bytes (take len out) (take-bytes len out b),
       length-take len out,
     )
-reply-short (Answered (NoneLeft n)) out h b = omega (arith, visited-short n)
-reply-short (Answered (Spent len n)) out h b = omega (arith, visited-short n)
+reply-short (Ok (NoneLeft n)) out h b = omega (arith, visited-short n)
+reply-short (Ok (Spent len n)) out h b = omega (arith, visited-short n)
 
 -- The order that a reply hands out is in the answer buffer.
-pub order-within : (given : Reply) (out : List ℕ) (said : reply.Reply lines.Refused Answer) → reply_of given out ≡ said
+pub order-within : (given : Result Ending Refusal) (out : List ℕ) (said : reply.Reply lines.Refused Answer) → reply_of given out ≡ said
     → length_of given ≡ prefix_length said → length_of given ≤ length out
 order-within given out said e h = length-within given out (h ∙ ap prefix_length (sym e))
 
 -- The line of a test, in a line that was empty.
-pub test-line : (l r : Line) (k : ℕ) (test : List ℕ) (reply : Reply) (before out : List ℕ)
+pub test-line : (l r : Line) (k : ℕ) (test : List ℕ) (reply : Result Ending Refusal) (before out : List ℕ)
     → l.len ≡ 0
     → before ≡ no_answer
     → length out ≡ length before

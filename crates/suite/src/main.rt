@@ -3,7 +3,7 @@
 
 mod held;
 
-ghost use Rattle.std.specs.Prelude.{◌≤◌, ◌≡◌, length};
+ghost use Rattle.std.specs.Prelude.{◌≤◌, ◌≡◌, length, Ok};
 ghost use Rattle.edition.specs.Limits.{two, test_length};
 ghost use Rattle.suite_walk.specs.Tests.{test_of};
 ghost use Rattle.witness_walk.specs.Ending.{answer_of};
@@ -15,8 +15,8 @@ ghost use Rattle.suite.specs.SuiteLine.{visited, no_answer, answer_text, reply_t
 use console::{Command, Line};
 use edition::EditionTwo;
 use held::Step;
-use search::Reply;
-use std::io::Result;
+use refusals::Refusal;
+use std::io;
 use witness_walk::Ending;
 
 // How many prefixes a test's search may visit.
@@ -32,7 +32,7 @@ fn visited(line: Line, n: u64) -> Line
 }
 
 fn ended(line: Line, o: Ending, answer: &[u8]) -> Line
-    requires { length_of (Reply.Answered o) ≤ length answer.now }
+    requires { length_of (Ok o) ≤ length answer.now }
     ensures { AddsTo line (answer_text (answer_of o answer.now)) result }
 {
     match o {
@@ -44,13 +44,13 @@ fn ended(line: Line, o: Ending, answer: &[u8]) -> Line
     }
 }
 
-fn replied(line: Line, reply: Reply, answer: &[u8]) -> Line
+fn replied(line: Line, reply: Result<Ending, Refusal>, answer: &[u8]) -> Line
     requires { length_of reply ≤ length answer.now }
     ensures { AddsTo line (reply_text (reply_of reply answer.now)) result }
 {
     match reply {
-        Reply::Refused(r) => line.item(b"refused ", words::number(r)),
-        Reply::Answered(o) => ended(line, o, answer),
+        Ok(o) => ended(line, o, answer),
+        Err(r) => line.item(b"refused ", words::number(r)),
     }
 }
 
@@ -73,7 +73,7 @@ fn first_line(rt: &HostRuntime, k: u64, held: &[u8]) -> Line
 }
 
 // Writes it; an error if it was lost.
-fn line(rt: &HostRuntime, k: u64, held: &[u8]) -> Result<()> {
+fn line(rt: &HostRuntime, k: u64, held: &[u8]) -> io::Result<()> {
     first_line(rt, k, held).end()
 }
 

@@ -1,15 +1,12 @@
 // The tests of a suite, of both editions: where each begins, and where the next one does.
 #![tactic(auto)]
 
-ghost use Rattle.std.specs.Prelude.{◌≤◌, ◌≡◌, true, false, length};
+ghost use Rattle.std.specs.Prelude.{◌≤◌, ◌≡◌, length};
 ghost use Rattle.edition.specs.Limits.{block_length};
-ghost use Rattle.refusals.specs.Lines.{unless};
-ghost use Rattle.refusals.specs.Refusals.{refusal_of};
 ghost use Rattle.suite_walk.specs.Tests.{begins_two, test_of, test_length_at, good_two, next_block};
 
 use decode::At;
 use edition::{EditionOne, EditionTwo};
-use refusals::Refusal;
 
 // Whether an edition 2 test begins with this block. The edition comes first, so that no other block is summed up for it.
 pub fn begins_two(first: &[u8]) -> bool
@@ -47,16 +44,6 @@ pub fn test_length(suite: &[u8], k: usize) -> usize
     test(suite, k).len()
 }
 
-fn accepted(refusal: Refusal) -> bool
-    ensures { result ≡ unless (refusal_of refusal) true false }
-{
-    match refusal {
-        Refusal::None => true,
-        Refusal::Line(_) => false,
-        Refusal::Record(_, _) => false,
-    }
-}
-
 // Whether a good edition 2 test begins at block `k`. No other test has as many bytes.
 fn good_two(suite: &[u8], k: usize) -> bool
     ensures { result ≡ good_two suite.now k }
@@ -65,9 +52,7 @@ fn good_two(suite: &[u8], k: usize) -> bool
     if bytes.len() != EditionTwo::TEST {
         return false;
     }
-    let reading = block::read(bytes);
-    let refusal = reading.refusal;
-    accepted(refusal)
+    block::read(bytes).is_ok()
 }
 
 // The block where the test after that at block `k` begins; `k` itself where the suite has no block `k`.

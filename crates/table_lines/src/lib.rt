@@ -10,7 +10,7 @@ ghost use Rattle.edition.specs.Limits.{two, most_events, max_locations};
 ghost use Rattle.table.specs.Events.{capacity, memory_mask};
 ghost use Rattle.refusals.specs.Lines.{first_line, whole, record_of};
 ghost use Rattle.refusals.specs.TableLines.{line7, line8, line9, line10, line11, line21, text_line7, record_lines, table_lines_by};
-ghost use Rattle.refusals.specs.Refusals.{refusal_of};
+ghost use Rattle.refusals.specs.Refusals.{refused_by};
 ghost use Rattle.table_lines.specs.AsBlock.{as_block, AsBlock};
 ghost use Rattle.table_lines.specs.Used.{InTest, Touches};
 
@@ -84,41 +84,41 @@ fn lowest10(t: Table) -> Option<EventNo>
 }
 
 // The first of lines 9 to 11 that holds, of a table with these memory events.
-fn refuse_related(t: Table, memory: u32) -> Refusal
+fn refuse_related(t: Table, memory: u32) -> Result<(), Refusal>
     requires { (t.count ≤ capacity) × (memory ≡ memory_mask t) }
-    ensures { refusal_of result ≡ first_line t.count (record_of 9 (line9 t) ∷ record_of 10 (line10 t) ∷ whole 11 (line11 t) ∷ []) }
+    ensures { refused_by result ≡ first_line t.count (record_of 9 (line9 t) ∷ record_of 10 (line10 t) ∷ whole 11 (line11 t) ∷ []) }
 {
     if let Some(k) = lowest9(t) {
-        return Refusal::Record(9, k);
+        return Err(Refusal::Record(9, k));
     }
     if let Some(k) = lowest10(t) {
-        return Refusal::Record(10, k);
+        return Err(Refusal::Record(10, k));
     }
     if memory == 0 {
-        return Refusal::Line(11);
+        return Err(Refusal::Line(11));
     }
-    Refusal::None
+    Ok(())
 }
 
 // The first of lines 7 to 11 that holds.
-fn refuse_records(t: Table) -> Refusal
+fn refuse_records(t: Table) -> Result<(), Refusal>
     requires { t.count ≤ capacity }
-    ensures { refusal_of result ≡ first_line t.count (record_lines t) }
+    ensures { refused_by result ≡ first_line t.count (record_lines t) }
 {
     let marks = mark_records(t);
     if marks.fields != 0 {
-        return Refusal::Record(7, EventNo(lowest_set(marks.fields) as u8));
+        return Err(Refusal::Record(7, EventNo(lowest_set(marks.fields) as u8)));
     }
     if marks.annotations != 0 {
-        return Refusal::Record(8, EventNo(lowest_set(marks.annotations) as u8));
+        return Err(Refusal::Record(8, EventNo(lowest_set(marks.annotations) as u8)));
     }
     if dependency_lines::some_may_break(t) {
         return refuse_related(t, marks.memory);
     }
     if marks.memory == 0 {
-        return Refusal::Line(11);
+        return Err(Refusal::Line(11));
     }
-    Refusal::None
+    Ok(())
 }
 
 // The mask of the locations that memory events touch.
@@ -149,31 +149,25 @@ pub fn line21(t: Table, named: u32) -> bool
 }
 
 // The first of lines 7 to 11 and 21 that holds.
-fn refuse_events(t: Table, named: u8) -> Refusal
+fn refuse_events(t: Table, named: u8) -> Result<(), Refusal>
     requires { (t.count ≤ capacity) × (t.locations ≤ max_locations) }
-    ensures { refusal_of result ≡ first_line t.count (record_lines t ++ (whole 21 (line21 (bit named) t) ∷ [])) }
+    ensures { refused_by result ≡ first_line t.count (record_lines t ++ (whole 21 (line21 (bit named) t) ∷ [])) }
 {
-    let refusal = refuse_records(t);
-    match refusal {
-        Refusal::Line(n) => Refusal::Line(n),
-        Refusal::Record(n, k) => Refusal::Record(n, k),
-        Refusal::None => {
-            if line21(t, u32::from(named)) {
-                return Refusal::Line(21);
-            }
-            Refusal::None
-        }
+    refuse_records(t)?;
+    if line21(t, u32::from(named)) {
+        return Err(Refusal::Line(21));
     }
+    Ok(())
 }
 
 // The first of lines 5 to 11 and 21 that holds; `most` is the number of events that the edition allows, `extra` what line 6 says
 // of bytes that are no field of the table, `named` has the locations whose end is stated.
-pub fn refuse(t: Table, named: u8, most: usize, extra: bool) -> Refusal
+pub fn refuse(t: Table, named: u8, most: usize, extra: bool) -> Result<(), Refusal>
     requires { most ≤ capacity }
-    ensures { refusal_of result ≡ first_line t.count (table_lines_by (line7 t) most extra t ++ (whole 21 (line21 (bit named) t) ∷ [])) }
+    ensures { refused_by result ≡ first_line t.count (table_lines_by (line7 t) most extra t ++ (whole 21 (line21 (bit named) t) ∷ [])) }
 {
     if whole_lines::line5(most, t.harts, t.locations, t.count, t.stated, t.model) {
-        return Refusal::Line(5);
+        return Err(Refusal::Line(5));
     }
     let initial = t.initial;
     let finals = t.finals;
@@ -181,7 +175,7 @@ pub fn refuse(t: Table, named: u8, most: usize, extra: bool) -> Refusal
         | whole_lines::final_not_zero(t.stated, finals)
         | whole_lines::past_not_blank(t);
     if extra | unused {
-        return Refusal::Line(6);
+        return Err(Refusal::Line(6));
     }
     refuse_events(t, named)
 }
@@ -222,11 +216,11 @@ const EVERY_LOCATION: u8 = 255;
 
 // The first of lines 5 to 11 that holds of a text's table; line 21 comes after the condition's own. They are asked of it as a
 // block's: second callers of the functions above would cost each block that is read further copies of its table.
-pub fn refuse_text(t: Table) -> Refusal
-    ensures { refusal_of result ≡ first_line t.count (table_lines_by (text_line7 t) (most_events two) false t) }
+pub fn refuse_text(t: Table) -> Result<(), Refusal>
+    ensures { refused_by result ≡ first_line t.count (table_lines_by (text_line7 t) (most_events two) false t) }
 {
     if EditionTwo::EVENTS < usize::from(t.count) {
-        return Refusal::Line(5);
+        return Err(Refusal::Line(5));
     }
     refuse(table_as_block(t), EVERY_LOCATION, EditionTwo::EVENTS, false)
 }

@@ -20,11 +20,14 @@ const MOST_BYTES: usize = MOST_BLOCKS * EditionOne::BLOCK;
 fn test(line: Line, suite: &[u8], k: usize) -> Line {
     let bytes = suite_walk::test(suite, k);
     let next = suite_walk::next(suite, k);
-    let refusal = block::read(bytes).refusal;
+    let refusal = match block::read(bytes) {
+        Ok(_) => 0,
+        Err(refusal) => words::number(refusal),
+    };
     line.number(k as u64)
         .spaced(bytes.len() as u64)
         .spaced(next as u64)
-        .spaced(u64::from(words::number(refusal)))
+        .spaced(u64::from(refusal))
         .text(b" / ")
 }
 

@@ -15,13 +15,14 @@ use Rattle.table.specs.declared.Table.{Table}
 use Rattle.table.specs.Events.{capacity}
 use Rattle.refusals.specs.Lines.{Refused, accepted, by_line, Line, first_line, unless}
 use Rattle.refusals.specs.TableLines.{outside, states_missing, unknown_model, header_wrong, line5, line21, text_line7, table_lines_by}
-use Rattle.refusals.specs.declared.Refusal.TheVariants.{None}
+use Rattle.refusals.specs.declared.Refusal.TheVariants as code
 use Rattle.refusals.proofs.InRange.{text-asks-range, places-in-range}
-use Rattle.refusals.proofs.LineLaws.{line-refuses, none_here, whole_here, whole-next, whole-off}
+use Rattle.refusals.proofs.LineLaws.{place-refuses, refuses, none_here, whole_here, whole-next, whole-off}
 use Rattle.refusals.proofs.PassedLaws.{passed-both, refused-first, passed_first, unless-refused}
 use Rattle.refusals.proofs.TablePassed.{TablePassed, table-passed-by}
 use Rattle.table_lines.specs.Used.{InTest}
 use Rattle.block.specs.Reading.{no_table}
+use Rattle.std.specs.Prelude.{Result, Ok, Err}
 use Rattle.placing.specs.GoodTable.{GoodTable}
 use Rattle.placing.proofs.GoodTableLaws.{good-table}
 use Rattle.text.specs.declared.TextRefusal.{TextRefusal}
@@ -90,6 +91,11 @@ module _ (t : Table) (ok : first_line t.count (table_lines_by (text_line7 t) (mo
   good : GoodTable t
   good = good-table (text_line7 t) (most_events two) false t (text-asks-range t) (omega arith) passed
 
+-- every refusal of a text is one
+pub text-refuses : (e : TextRefusal) → text_refusal_of e ≢ accepted
+text-refuses (text.At n p) = place-refuses n p
+text-refuses (text.Table r) = refuses r
+
 module _ (t : Table) (ws : List ℕ) where
   abbrev lines : List Line
   lines = table_lines_by (text_line7 t) (most_events two) false t
@@ -135,36 +141,34 @@ module _ (t : Table) (ws : List ℕ) where
     known_behind = (whole-off t.count 23 (any (word_unknown t) ws) _ both.1).0
 
   module _ (len : ℕ) where
-    pub judged-refused : (r : TextReading) (q : TextRefusal) → (r.refusal ≡ q) × (r.table ≡ no_table)
-        → text_refusal_of q ≡ refusal_behind t ws → text_refusal_of q ≢ accepted → Judged t ws len r
-    judged-refused r q e h k = record {
-      refusal = ap text_refusal_of e.0 ∙ h;
-      table = e.1 ∙ sym (unless-refused (refusal_behind t ws) t no_table (λ z. k (h ∙ z)));
-      words = λ z. absurd (k (h ∙ z));
+    pub judged-refused : (e : TextRefusal) → text_refusal_of e ≡ refusal_behind t ws → Judged t ws len (Err e)
+    judged-refused e h = record {
+      refusal = h;
+      table = sym (unless-refused (refusal_behind t ws) t no_table (λ z. text-refuses e (h ∙ z)));
+      words = tt;
     }
 
-    pub judged-5 : (r : TextReading) (q : TextRefusal) → (r.refusal ≡ q) × (r.table ≡ no_table) → text_refusal_of q ≡ by_line 5
-        → line5 (most_events two) t ≡ true → Judged t ws len r
-    judged-5 r q e f h = judged-refused r q e (f ∙ by-5 h) (λ z. absurd (line-refuses 5 (sym f ∙ z)))
+    pub judged-5 : line5 (most_events two) t ≡ true → Judged t ws len (Err (text.Table (code.Line 5)))
+    judged-5 h = judged-refused (text.Table (code.Line 5)) (by-5 h)
 
-    pub judged-none : accepted ≡ refusal_behind t ws → Judged t ws len (record { refusal = text.Table None; table = t; len = len })
+    pub judged-none : accepted ≡ refusal_behind t ws → Judged t ws len (Ok (record { table = t; len = len }))
     judged-none h = record {
       refusal = h;
       table = ap (λ (q : Refused). unless q t no_table) h;
-      words = λ z. refl;
+      words = refl;
     }
 
 -- of two tables that line 5 refuses the answer is the same
-pub judged-as : (t u : Table) (ws : List ℕ) (len : ℕ) (r : TextReading) → line5 (most_events two) t ≡ true
+pub judged-as : (t u : Table) (ws : List ℕ) (len : ℕ) (r : Result TextReading TextRefusal) → line5 (most_events two) t ≡ true
     → line5 (most_events two) u ≡ true → Judged t ws len r → Judged u ws len r
 judged-as t u ws len r h k j = record {
   refusal = j.refusal ∙ sym (by-5 t ws h) ∙ by-5 u ws k;
   table =
       j.table ∙ ap (λ (q : Refused). unless q t no_table) (sym (by-5 t ws h))
       ∙ ap (λ (q : Refused). unless q u no_table) (by-5 u ws k);
-  words = λ z. absurd (line-refuses 5 (by-5 u ws k ∙ z));
+  words = j.words;
 }
 
 -- the answer for a table is that for the same one
-pub judged-same : (t u : Table) (ws : List ℕ) (len : ℕ) (r : TextReading) → t ≡ u → Judged t ws len r → Judged u ws len r
+pub judged-same : (t u : Table) (ws : List ℕ) (len : ℕ) (r : Result TextReading TextRefusal) → t ≡ u → Judged t ws len r → Judged u ws len r
 judged-same t u ws len r e j = subst (λ (x : Table). Judged x ws len r) e j

@@ -2,7 +2,7 @@
 use Prim.Native.Nat.{ℕ, suc, max, ◌≤◌, ◌<◌}
 use mathlib.Core.Path.{◌≡◌, refl, sym, ap, ap₂, subst, ◌∙◌}
 use mathlib.Core.Bool.{Bool, true, false}
-use mathlib.Core.Logic.{◌≢◌, ◌⊎◌, inl, inr, ⊎_elim}
+use mathlib.Core.Logic.{◌⊎◌, inl, inr, ⊎_elim}
 use mathlib.Core.List.{List, [], ◌∷◌, ◌++◌, map}
 use native.Mathlib.Omega.{arith}
 use lib.ListN.{length, get_or, take, drop, length-drop}
@@ -32,16 +32,17 @@ use Rattle.text_lines.proofs.ReadLaws.{then-then, then_same}
 use Rattle.condition_reader.specs.Words.{code}
 use Rattle.model.specs.Following.{names_unknown, names_location}
 use Rattle.placing.specs.GoodTable.{GoodTable}
+use Rattle.std.specs.Prelude.{Result, Ok, Err, IfOk}
 use Rattle.text.specs.declared.TextRefusal.{TextRefusal}
 use Rattle.text.specs.declared.TextReading.{TextReading}
 use Rattle.text.specs.Texts.{document_of, covering, column, table_of, lines_as, text_lines, text_refusal, text_table, condition_of}
-use Rattle.text.specs.TextRefusals.{text_refusal_of}
+use Rattle.text.specs.TextRefusals.{text_refusal_of, text_refused_by, text_table_of}
 use Rattle.text.specs.Judged.{last, closing, outcome_in, table_from, word_unknown, word_names, lines_behind, refusal_behind, Judged}
 use Rattle.text.specs.Accepted.{IfAccepted}
 use Rattle.text.proofs.CoverLaws.{all-kept, harts-of, locations-of}
 use Rattle.text.proofs.UnknownLaws.{words-unknown}
 use Rattle.text.proofs.NamedLaws.{words-named, line21-same}
-use Rattle.text.proofs.JudgeLaws.{events-over, judged-as, good-behind, known_behind}
+use Rattle.text.proofs.JudgeLaws.{events-over, text-refuses, judged-as, good-behind, known_behind}
 
 abbrev documented : List (List ℕ) → List ℕ → Condition → Document
 documented es vs c = record { events = es; initial = vs; outcome = c }
@@ -162,18 +163,15 @@ module _ (s : List ℕ) (short : length s ≤ max_text) where
       unfolding refusal_behind lines_behind
       behind = legal-lines ∙ ap₂ decided_by (sym same-unknown) (sym same-unused)
 
-abbrev pub Answers : List ℕ → List ℕ → TextReading → Type 0
+abbrev pub Answers : List ℕ → List ℕ → Result TextReading TextRefusal → Type 0
 Answers s words r =
-    (text_refusal_of r.refusal ≡ text_refusal s) × ((r.table ≡ text_table s) × IfAccepted s r.table words r.len)
+    (text_refused_by r ≡ text_refusal s) × (text_table_of r ≡ text_table s) × IfOk r (λ a. IfAccepted s a.table words a.len)
 
 -- a refusal
-pub answers-refused : (s words : List ℕ) (r : TextReading) (q : TextRefusal) → (r.refusal ≡ q) × (r.table ≡ no_table)
-    → text_refusal_of q ≡ text_refusal s → text_refusal_of q ≢ accepted → Answers s words r
+pub answers-refused : (s words : List ℕ) (e : TextRefusal) → text_refusal_of e ≡ text_refusal s → Answers s words (Err e)
 unfolding text_table
-answers-refused s words r q e h k = (
-  ap text_refusal_of e.0 ∙ h,
-  (e.1 ∙ sym (unless-refused (text_refusal s) _ no_table (λ z. k (h ∙ z))), (λ z. absurd (k (h ∙ z)))),
-)
+answers-refused s words e h =
+    (h, sym (unless-refused (text_refusal s) _ no_table (λ z. text-refuses e (h ∙ z))), tt)
 
 -- a legal text, whose parts were read: its events and values are kept in so many slots, and its condition in words
 module _ (s : List ℕ) (short : length s ≤ max_text) (es : List (List ℕ)) (vs : List ℕ) (c : Condition)
@@ -207,13 +205,12 @@ module _ (s : List ℕ) (short : length s ≤ max_text) (es : List (List ℕ)) (
     unfolding table_from table_of
     count-over h = (events-over t h, events-over (table_of d) (omega (arith, h, counted)))
 
-    module _ (words : List ℕ) (len : ℕ) (r : TextReading) (inside : len ≤ length words) (coded : take len words ≡ code c)
-        (i : Judged t (take len words) len r) where
+    module _ (words : List ℕ) (len : ℕ) (inside : len ≤ length words) (coded : take len words ≡ code c) where
       abbrev ws : List ℕ
       ws = take len words
 
-      judged : Judged (table_of d) ws len r
-      judged = go (ltb (most_events two) count) refl
+      judged : (r : Result TextReading TextRefusal) → Judged t ws len r → Judged (table_of d) ws len r
+      judged r i = go (ltb (most_events two) count) refl
         where
           go : (b : Bool) → ltb (most_events two) count ≡ b → Judged (table_of d) ws len r
           go true h = let w = count-over (ltb-true (most_events two) count h) in judged-as t (table_of d) ws len r w.0 w.1 i
@@ -226,13 +223,14 @@ module _ (s : List ℕ) (short : length s ≤ max_text) (es : List (List ℕ)) (
       unfolding condition_of
       condition-is = ap (λ (x : Read Document). (document_of x).outcome) e
 
-      if-accepted : IfAccepted s r.table words r.len
-      if-accepted h =
+      if-accepted : (r : Result TextReading TextRefusal) → Judged (table_of d) ws len r → IfOk r (λ a. IfAccepted s a.table words a.len)
+      if-accepted (Err e) j = tt
+      if-accepted (Ok a) j = λ h.
           let ok : refusal_behind (table_of d) ws ≡ accepted = sym refusal_is ∙ h in
-          let same : r.table ≡ table_of d = judged.table ∙ ap (λ (x : Refused). unless x (table_of d) no_table) ok in
+          let same : a.table ≡ table_of d = j.table ∙ ap (λ (x : Refused). unless x (table_of d) no_table) ok in
           record {
-            coded = ap (λ (n : ℕ). take n words) (judged.words ok) ∙ coded ∙ ap code (sym condition-is);
-            inside = omega (arith, inside, judged.words ok);
+            coded = ap (λ (n : ℕ). take n words) j.words ∙ coded ∙ ap code (sym condition-is);
+            inside = omega (arith, inside, j.words);
             fitting = ap fits condition-is ∙ fitting s short d e;
             known =
                 ap (λ (u : Table). names_unknown u (condition_of s)) same ∙ ap (names_unknown (table_of d)) condition-is
@@ -240,13 +238,12 @@ module _ (s : List ℕ) (short : length s ≤ max_text) (es : List (List ℕ)) (
             good = subst GoodTable (sym same) (good-behind (table_of d) ws ok);
           }
 
-      pub answers-judged : Answers s words r
+      pub answers-judged : (r : Result TextReading TextRefusal) → Judged t ws len r → Answers s words r
       unfolding text_table
-      answers-judged = (
-        judged.refusal ∙ sym refusal_is,
-        (
-          judged.table ∙ ap (λ (x : Refused). unless x (table_of d) no_table) (sym refusal_is)
-              ∙ ap (λ (x : Read Document). unless (text_refusal s) (table_of (document_of x)) no_table) (sym e),
-          if-accepted,
-        ),
-      )
+      answers-judged r i =
+          let j = judged r i in (
+            j.refusal ∙ sym refusal_is,
+            j.table ∙ ap (λ (x : Refused). unless x (table_of d) no_table) (sym refusal_is)
+                ∙ ap (λ (x : Read Document). unless (text_refusal s) (table_of (document_of x)) no_table) (sym e),
+            if-accepted r j,
+          )

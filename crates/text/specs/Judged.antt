@@ -1,5 +1,5 @@
 -- What the answers of the readers and of the tests say of the definitions.
-use Rattle.std.specs.Prelude.{ℕ, ◌/◌, ◌%◌, ◌≤◌, ◌<◌, max, ◌≡◌, Bool, false, cond, not, ◌&&◌, ◌||◌, List, [], ◌∷◌, ◌++◌, Result, Ok, Err, map, length, get_or, take, drop, replicate, eqb, leb}
+use Rattle.std.specs.Prelude.{ℕ, ◌/◌, ◌%◌, ◌≤◌, ◌<◌, max, ◌≡◌, Bool, false, cond, not, ◌&&◌, ◌||◌, List, [], ◌∷◌, ◌++◌, Result, Ok, Err, IfOk, map, length, get_or, take, drop, replicate, eqb, leb}
 use Rattle.lists.specs.Lists.{any}
 use Rattle.masks.specs.Bit.{bit}
 use Rattle.edition.specs.Limits.{two, most_events, max_locations}
@@ -7,7 +7,7 @@ use Rattle.table.specs.declared.Event.{Event}
 use Rattle.table.specs.declared.Table.{Table}
 use Rattle.table.specs.Events.{capacity, event, reading_kind}
 use Rattle.table.specs.Annotations.{rvwmo}
-use Rattle.refusals.specs.Lines.{Refused, accepted, Line, whole, first_line, unless}
+use Rattle.refusals.specs.Lines.{Refused, Line, whole, first_line, unless}
 use Rattle.refusals.specs.TableLines.{text_line7, line21, table_lines_by}
 use Rattle.block.specs.Reading.{no_table}
 use Rattle.text_format.specs.Bytes.{newline}
@@ -20,8 +20,9 @@ use Rattle.condition_reader.specs.declared.Breach.{Breach}
 use Rattle.text_lines.specs.Lines.{event_of}
 use Rattle.text.specs.declared.Parts.{Parts}
 use Rattle.text.specs.declared.TextReading.{TextReading}
+use Rattle.text.specs.declared.TextRefusal.{TextRefusal}
 use Rattle.text.specs.Texts.{covering}
-use Rattle.text.specs.TextRefusals.{text_refusal_of}
+use Rattle.text.specs.TextRefusals.{text_refused_by, text_table_of}
 
 -- nothing may follow
 abbrev pub last : Condition → List ℕ → Read Condition
@@ -106,7 +107,7 @@ unfoldable pub refusal_behind : Table → List ℕ → Refused
 refusal_behind t ws = first_line t.count (lines_behind t ws)
 
 -- the answer for a legal text with this table and these words
-pub record Judged (t : Table) (ws : List ℕ) (len : ℕ) (r : TextReading) : Type 0 where
-  pub refusal : text_refusal_of r.refusal ≡ refusal_behind t ws
-  pub table : r.table ≡ unless (refusal_behind t ws) t no_table
-  pub words : refusal_behind t ws ≡ accepted → r.len ≡ len
+pub record Judged (t : Table) (ws : List ℕ) (len : ℕ) (r : Result TextReading TextRefusal) : Type 0 where
+  pub refusal : text_refused_by r ≡ refusal_behind t ws
+  pub table : text_table_of r ≡ unless (refusal_behind t ws) t no_table
+  pub words : IfOk r (λ a. a.len ≡ len)

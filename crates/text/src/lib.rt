@@ -1,16 +1,15 @@
 // Reading a test as text: the first refusal, the table, and the words of its condition.
 #![tactic(auto)]
 
-ghost use Rattle.std.specs.Prelude.{◌≤◌, max, ◌≡◌, map, length, take};
+ghost use Rattle.std.specs.Prelude.{◌≤◌, max, ◌≡◌, map, length, take, IfOk};
 ghost use Rattle.lists.specs.Lists.{any};
 ghost use Rattle.table.specs.Events.{capacity};
-ghost use Rattle.block.specs.Reading.{no_table};
 ghost use Rattle.text_format.specs.Document.{max_text};
 ghost use Rattle.condition_reader.specs.Steps.{refusal_in, place_in};
 ghost use Rattle.condition_reader.specs.Words.{max_words};
 ghost use Rattle.text.specs.Texts.{covering, text_refusal, text_table};
-ghost use Rattle.text.specs.TextRefusals.{text_refusal_of};
-ghost use Rattle.text.specs.declared.TextRefusal.TheVariants.{At};
+ghost use Rattle.text.specs.TextRefusals.{text_refused_by, text_table_of};
+ghost use Rattle.text.specs.declared.TextRefusal.TheVariants.{At, Table};
 ghost use Rattle.text.specs.Judged.{ClosingSays, OutcomeSays, PartsSay, table_from, unknown_by, word_unknown, Names, Judged};
 ghost use Rattle.text.specs.Accepted.{IfAccepted};
 
@@ -30,7 +29,7 @@ const LEVELS: u8 = 8;
 // How many numbers there are of one byte.
 const BYTES: u32 = 256;
 
-// 19 and 20 with their place; any other refusal, or none.
+// 19 and 20 with their place; or any other refusal.
 #[derive(Clone, Copy)]
 pub enum TextRefusal {
     At { number: u8, place: usize },
@@ -48,10 +47,17 @@ impl From<Breach> for TextRefusal {
     }
 }
 
+impl From<Refusal> for TextRefusal {
+    ghost from_gives = { λ q r. r ≡ Table q };
+
+    fn from(refusal: Refusal) -> TextRefusal {
+        TextRefusal::Table(refusal)
+    }
+}
+
 // The condition is the first `len` words of the buffer.
 #[derive(Clone, Copy)]
 pub struct TextReading {
-    pub refusal: TextRefusal,
     pub table: Table,
     pub len: usize,
 }
@@ -69,16 +75,6 @@ struct Parts {
 struct Covered {
     harts: usize,
     locations: usize,
-}
-
-fn refused(refusal: TextRefusal) -> TextReading
-    ensures { (result.refusal ≡ refusal) × (result.table ≡ no_table) }
-{
-    TextReading {
-        refusal,
-        table: block::no_table(),
-        len: 0,
-    }
 }
 
 // The newline behind the condition, and the end of the text.
@@ -181,28 +177,18 @@ fn named_locations(words: &[u32], len: usize) -> u32
 }
 
 // Lines 5 to 11, 23 and 21 of a legal text with this table.
-fn judge(t: Table, words: &[u32], len: usize) -> TextReading
+fn judge(t: Table, words: &[u32], len: usize) -> Result<TextReading, TextRefusal>
     requires { len ≤ length words.now }
     ensures { Judged t (take len words.now) len result }
 {
-    let refusal = table_lines::refuse_text(t);
-    match refusal {
-        Refusal::Line(n) => refused(TextRefusal::Table(Refusal::Line(n))),
-        Refusal::Record(n, k) => refused(TextRefusal::Table(Refusal::Record(n, k))),
-        Refusal::None => {
-            if names_unknown(t, words, len) {
-                return refused(TextRefusal::Table(Refusal::Line(23)));
-            }
-            if table_lines::line21(t, named_locations(words, len)) {
-                return refused(TextRefusal::Table(Refusal::Line(21)));
-            }
-            TextReading {
-                refusal: TextRefusal::Table(Refusal::None),
-                table: t,
-                len,
-            }
-        }
+    table_lines::refuse_text(t)?;
+    if names_unknown(t, words, len) {
+        return Err(TextRefusal::Table(Refusal::Line(23)));
     }
+    if table_lines::line21(t, named_locations(words, len)) {
+        return Err(TextRefusal::Table(Refusal::Line(21)));
+    }
+    Ok(TextReading { table: t, len })
 }
 
 // Too many events, values, harts or locations are 5 before there is a table, whose counts are bytes.
@@ -213,17 +199,17 @@ fn tabulate(
     given: usize,
     words: &[u32],
     len: usize,
-) -> TextReading
+) -> Result<TextReading, TextRefusal>
     requires { len ≤ length words.now }
     ensures { Judged (table_from events count initial given) (take len words.now) len result }
 {
     if EditionTwo::EVENTS < count {
-        return refused(TextRefusal::Table(Refusal::Line(5)));
+        return Err(TextRefusal::Table(Refusal::Line(5)));
     }
     let fields = least(events, count);
     let locations = larger(given, fields.locations);
     if (EditionOne::HARTS < fields.harts) | (EditionOne::LOCATIONS < locations) {
-        return refused(TextRefusal::Table(Refusal::Line(5)));
+        return Err(TextRefusal::Table(Refusal::Line(5)));
     }
     let t = Table {
         harts: fields.harts as u8,
@@ -238,29 +224,25 @@ fn tabulate(
     judge(t, words, len)
 }
 
-// Any text: the first refusal, the table, which is blank if there is one, and its condition as the first `len` words.
-pub fn read(text: &[u8], words: &mut [u32]) -> TextReading
+// Any text: the first refusal; or the table, and its condition as the first `len` words.
+pub fn read(text: &[u8], words: &mut [u32]) -> Result<TextReading, TextRefusal>
     requires { max_words ≤ length words.old }
-    ensures refusal_value { text_refusal_of result.refusal ≡ text_refusal text.now }
-    ensures table_value { result.table ≡ text_table text.now }
-    ensures if_accepted { IfAccepted text.now result.table words.new result.len }
+    ensures refusal_value { text_refused_by result ≡ text_refusal text.now }
+    ensures table_value { text_table_of result ≡ text_table text.now }
+    ensures if_accepted { IfOk result (λ r. IfAccepted text.now r.table words.new r.len) }
 {
     if MAX_TEXT < text.len() {
-        return refused(TextRefusal::Table(Refusal::Line(1)));
+        return Err(TextRefusal::Table(Refusal::Line(1)));
     }
-    match read_parts(text, words) {
-        Ok(parts) => {
-            let lines = parts.lines;
-            let values = parts.values;
-            tabulate(
-                lines.events,
-                lines.count,
-                values.initial,
-                values.count,
-                &*words,
-                parts.len,
-            )
-        }
-        Err(breach) => refused(TextRefusal::from(breach)),
-    }
+    let parts = read_parts(text, words)?;
+    let lines = parts.lines;
+    let values = parts.values;
+    tabulate(
+        lines.events,
+        lines.count,
+        values.initial,
+        values.count,
+        &*words,
+        parts.len,
+    )
 }

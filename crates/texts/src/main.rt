@@ -1,10 +1,8 @@
 // Reads a stream of calls on texts, readings and searches, single ones and those of walks, and prints a line for each.
 #![tactic(auto)]
 
-use bench::TextReply;
 use calls::Calls;
-use refusals::Refusal;
-use search::Reply;
+use console::Line;
 use search_line::Walk;
 use text::TextRefusal;
 use witness_walk::Ending;
@@ -19,14 +17,19 @@ const WALK: u8 = b'W';
 // One byte more than a legal text may have.
 const TEXT: usize = 2049;
 
+fn refused(line: Line, refusal: TextRefusal) -> Line {
+    match refusal {
+        TextRefusal::At { number, place } => words::refused_at(line, number, place),
+        TextRefusal::Table(r) => words::refused(line, r),
+    }
+}
+
 // What reading gives: the table, or the refusal.
 fn read(rt: &HostRuntime, k: u64, text: &[u8]) {
     let begun = calls::begin(rt, k);
-    let test = bench::read_text(text);
-    let said = match test.refusal {
-        TextRefusal::At { number, place } => words::refused_at(begun, number, place),
-        TextRefusal::Table(Refusal::None) => table_line::fields(begun, &test.table),
-        TextRefusal::Table(line) => words::refused(begun, line),
+    let said = match bench::read_text(text) {
+        Ok(t) => table_line::fields(begun, &t),
+        Err(refusal) => refused(begun, refusal),
     };
     let _ = said.end();
 }
@@ -43,14 +46,11 @@ fn search(
     let reply = bench::search_text(text, start, answer, allowance);
     let begun = calls::begin(rt, k);
     let said = match reply {
-        TextReply::Illegal { number, place } => words::refused_at(begun, number, place),
-        TextReply::Searched(r) => search_line::replied(begun, r),
+        Ok(o) => search_line::ended(begun, o),
+        Err(refusal) => refused(begun, refusal),
     };
     calls::end(said, answer);
-    match reply {
-        TextReply::Searched(Reply::Answered(o)) => Some(o),
-        _ => None,
-    }
+    reply.ok()
 }
 
 #[derive(Drop)]

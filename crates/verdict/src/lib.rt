@@ -4,13 +4,11 @@
 mod pairs;
 
 ghost use Rattle.std.specs.Prelude.{◌≤◌, ◌≡◌, length};
-ghost use Rattle.lists.specs.Reply.{answered};
 ghost use Rattle.edition.specs.Limits.{max_locations};
 ghost use Rattle.table.specs.Events.{capacity};
 ghost use Rattle.model.specs.Verdict.{verdict};
 ghost use Rattle.verdict.specs.Judged.{judged_of};
 
-use refusals::Refusal;
 use table::{EventNo, LocationNo, Table};
 
 // What is broken, with its place; a preserved-order pair with the set of its rules, bit r - 1 for rule r.
@@ -25,15 +23,14 @@ pub enum Axiom {
 
 #[derive(Clone, Copy)]
 pub enum Verdict {
-    Refused(Refusal),
-    Broken(Axiom),
     Allowed,
+    Broken(Axiom),
 }
 
 // The first that is broken, in the stated order, for a candidate that nothing refuses.
 pub fn judge(t: Table, rf: &[u8], gmo: &[u8]) -> Verdict
     requires { (t.count ≤ capacity) × (t.locations ≤ max_locations) × (length rf.now ≡ t.count) }
-    ensures { judged_of result ≡ answered (verdict t rf.now gmo.now) }
+    ensures { judged_of result ≡ verdict t rf.now gmo.now }
 {
     if let Some(pair) = pairs::lowest_pair(t, rf, gmo) {
         let a = pair.a;

@@ -2,7 +2,6 @@
 #![tactic(auto)]
 
 use calls::Calls;
-use search::Reply;
 use search_line::Walk;
 use witness_walk::Ending;
 
@@ -31,10 +30,7 @@ fn search(
         bench::search(block, start, answer, allowance)
     };
     calls::end(search_line::replied(calls::begin(rt, k), reply), answer);
-    match reply {
-        Reply::Answered(o) => Some(o),
-        Reply::Refused(_) => None,
-    }
+    reply.ok()
 }
 
 #[derive(Drop)]

@@ -3,7 +3,6 @@
 
 use console::{Command, Line};
 use edition::EditionTwo;
-use search::Reply;
 use std::io::Result;
 use witness_walk::Ending;
 
@@ -67,7 +66,7 @@ fn returned(line: Line, list: &[u8; LIST]) -> Line {
 fn witness(rt: &HostRuntime, test: &[u8], walk: &Walk) -> Result<()> {
     let order = console::front(&walk.prefix, walk.len);
     let mut list = [reads_from::NOTHING; LIST];
-    bench::returns(test, order, &mut list);
+    let _ = bench::returns(test, order, &mut list);
     let begun = Line::output(rt)
         .text(b"witness ")
         .number(walk.witnesses)
@@ -137,11 +136,11 @@ fn call(rt: &HostRuntime, test: &[u8], walk: Walk) -> Result<Option<Walk>> {
     let start = console::front(&walk.prefix, walk.len);
     let mut answer = [0u8; LIST];
     match bench::search(test, start, &mut answer, ALLOWANCE) {
-        Reply::Refused(r) => {
+        Ok(o) => answered(rt, test, walk, o, answer),
+        Err(r) => {
             words::explained(Line::output(rt), r).end()?;
             Ok(None)
         }
-        Reply::Answered(o) => answered(rt, test, walk, o, answer),
     }
 }
 

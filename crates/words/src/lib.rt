@@ -59,12 +59,12 @@ the second writes, and the address of an event between them depends on the first
     line.text(console::row(table, n))
 }
 
-// A refusal's number, and its record where it names one. `None` is no refusal, and no entry says that it refuses by it.
+// A refusal's number, and its record where it names one.
 pub fn refused(line: Line, r: Refusal) -> Line {
     let said = line.item(b"refused ", number(r));
     match r {
+        Refusal::Line(_) => said,
         Refusal::Record(_, k) => said.item(b", record ", k.0),
-        _ => said,
     }
 }
 
@@ -75,12 +75,11 @@ pub fn refused_at(line: Line, n: u8, place: usize) -> Line {
         .number(place as u64)
 }
 
-// The number of a refusal's line, 0 for none.
+// The number of a refusal's line.
 pub fn number(r: Refusal) -> u8
     ensures { result ≡ number_of (refusal_of r) }
 {
     match r {
-        Refusal::None => 0,
         Refusal::Line(n) => n,
         Refusal::Record(n, _) => n,
     }

@@ -3,7 +3,6 @@
 #![tactic(auto)]
 
 use console::{byte_or_zero, word};
-use refusals::Refusal;
 use table::{CAPACITY, Event, LOCATIONS, LocationNo, Table};
 
 // No buffer of a stream is longer.
@@ -54,8 +53,8 @@ fn table(rt: &HostRuntime, harts: u8) -> Table {
 fn line(rt: &HostRuntime, k: u64, t: Table, out: &mut [u8]) {
     let begun = calls::begin(rt, k);
     let said = match bench::write(t, out) {
-        Refusal::None => begun.text(b"written"),
-        refusal => words::refused(begun, refusal),
+        Ok(()) => begun.text(b"written"),
+        Err(r) => words::refused(begun, r),
     };
     calls::end(said, out);
 }

@@ -1,5 +1,6 @@
-use mathlib.Core.Path.{sym, ◌∙◌}
+use mathlib.Core.Path.{sym, ap, ◌∙◌}
 use native.Mathlib.Omega.{arith}
+use Rattle.lists.specs.Reply.{answered}
 use Rattle.candidate.specs.CandidateLines.{returned_length_wrong}
 use Rattle.answers.proofs.CandidateLaws.{judge-12, judge-13, judge-14, judge-none, order-length-wrong, returned-length}
 use Rattle.answers.proofs.judge.Goals as goal
@@ -26,4 +27,4 @@ judge-requires c = (omega (arith, c.requires.events), c.requires.locations, retu
 
 pub returns : goal.returns
 unfolding returned_length_wrong
-returns c = judge-none _ _ _ (rw (order-length-wrong _ _ _ c.total.ensures, c.from.ensures) at c.if-order-total.false) (sym c.order_wrong.ensures ∙ c.if-order_wrong.false) (sym c.returned_wrong.ensures ∙ c.if-returned_wrong.false) _ c.judge.ensures
+returns c = judge-none _ _ _ (rw (order-length-wrong _ _ _ c.total.ensures, c.from.ensures) at c.if-order-total.false) (sym c.order_wrong.ensures ∙ c.if-order_wrong.false) (sym c.returned_wrong.ensures ∙ c.if-returned_wrong.false) _ (ap answered c.judge.ensures)

@@ -1,22 +1,25 @@
+use Rattle.std.proofs.lemmas.Result.{err_from_is_err_and}
+use Rattle.block.specs.Reading.{table_of}
+use Rattle.refusals.specs.Refusals.{refused_by}
+use Rattle.refusals.proofs.LineLaws.{refuses}
 use Rattle.bench.proofs.EntryLaws.{table-read, good-read, advice-declined, advice-answered}
 use Rattle.placing.specs.GoodTable.{GoodTable}
-use Rattle.refusals.specs.Refusals.{refusal_of}
-use Rattle.refusals.proofs.LineLaws.{line-refuses, record-refuses}
 use mathlib.Core.Path.{ap, sym, subst, ◌∙◌}
 use Rattle.bench.proofs.advise.Goals as goal
 
 pub advise-requires : goal.advise-requires
-advise-requires c = let read = c.read-reading.ensures in
-    let ok = sym read.0 ∙ ap refusal_of c.in-None.is in
-    subst GoodTable (sym (read.1 ∙ table-read _ ok)) (good-read _ ok)
+advise-requires c =
+    let ok = sym c.read.ensures.0 ∙ ap refused_by c.in_ok-t.was in
+    let e = sym (ap table_of c.in_ok-t.was) ∙ c.read.ensures.1 ∙ table-read _ ok in
+    subst GoodTable (sym e) (good-read _ ok)
 
-pub returns-in-None : goal.returns-in-None
-returns-in-None c = let read = c.read-reading.ensures in
-    let ok = sym read.0 ∙ ap refusal_of c.in-None.is in
-    advice-answered _ _ _ _ ok (read.1 ∙ table-read _ ok) c.advise.ensures
+pub returns : goal.returns
+returns c =
+    let ok = sym c.read.ensures.0 ∙ ap refused_by c.in_ok-t.was in
+    let e = sym (ap table_of c.in_ok-t.was) ∙ c.read.ensures.1 ∙ table-read _ ok in
+    advice-answered _ _ _ _ ok e c.advise.ensures
 
-pub returns-in-Line : goal.returns-in-Line
-returns-in-Line c = advice-declined _ _ _ (sym (ap refusal_of c.in-Line.is) ∙ c.read-reading.ensures.0) (line-refuses _)
-
-pub returns-in-Record : goal.returns-in-Record
-returns-in-Record c = advice-declined _ _ _ (sym (ap refusal_of c.in-Record.is) ∙ c.read-reading.ensures.0) (record-refuses _ _)
+pub returns-in_err-t : goal.returns-in_err-t
+returns-in_err-t c =
+    let p = err_from_is_err_and c.from_residual.result c.from_residual.ensures.1 in
+    rw (p.1, p.2) (advice-declined _ _ _ (sym (ap refused_by c.in_err-t.was) ∙ c.read.ensures.0) (refuses _))

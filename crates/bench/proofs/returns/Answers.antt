@@ -1,24 +1,28 @@
+use Rattle.std.proofs.lemmas.Result.{err_from_is_err_and}
+use Rattle.block.specs.Reading.{table_of}
+use Rattle.refusals.specs.Refusals.{refused_by}
+use Rattle.refusals.proofs.LineLaws.{refuses}
 use Rattle.bench.proofs.EntryLaws.{table-read, small-read, returns-declined, returns-judged}
 use Rattle.table.specs.Counts.{Small}
-use Rattle.refusals.specs.Refusals.{refusal_of}
-use Rattle.refusals.proofs.LineLaws.{line-refuses, record-refuses}
 use mathlib.Core.Path.{ap, sym, subst, ◌∙◌}
 use Rattle.bench.proofs.returns.Goals as goal
 
 pub determine-requires : goal.determine-requires
-determine-requires c = subst Small (sym (c.read-reading.ensures.1 ∙ table-read _ (sym c.read-reading.ensures.0 ∙ ap refusal_of c.in-None.is))) (small-read _ (sym c.read-reading.ensures.0 ∙ ap refusal_of c.in-None.is))
+determine-requires c =
+    let ok = sym c.read.ensures.0 ∙ ap refused_by c.in_ok-t.was in
+    let e = sym (ap table_of c.in_ok-t.was) ∙ c.read.ensures.1 ∙ table-read _ ok in
+    subst Small (sym e) (small-read _ ok)
 
-pub returns-in-None : goal.returns-in-None
-returns-in-None c = let read = c.read-reading.ensures in
-    let ok = sym read.0 ∙ ap refusal_of c.in-None.is in
-    let d = c.determine in
-    let w = returns-judged c.args.bytes.now c.args.order.now c.args.out.now _ _ _ ok (read.1 ∙ table-read _ ok) (d.ensures.result_value, d.ensures.out_after) in
+pub returns : goal.returns
+returns c =
+    let ok = sym c.read.ensures.0 ∙ ap refused_by c.in_ok-t.was in
+    let e = sym (ap table_of c.in_ok-t.was) ∙ c.read.ensures.1 ∙ table-read _ ok in
+    let d = c.determine.ensures in
+    let w = returns-judged c.args.bytes.now c.args.order.now c.args.out.now _ _ _ ok e (d.result_value, d.out_after) in
     record { result_value = w.0; out_after = w.1 }
 
-pub returns-in-Line : goal.returns-in-Line
-returns-in-Line c = let w = returns-declined c.args.bytes.now c.args.order.now c.args.out.now _ (sym (ap refusal_of c.in-Line.is) ∙ c.read-reading.ensures.0) (line-refuses _) in
-    record { result_value = w.0; out_after = w.1 }
-
-pub returns-in-Record : goal.returns-in-Record
-returns-in-Record c = let w = returns-declined c.args.bytes.now c.args.order.now c.args.out.now _ (sym (ap refusal_of c.in-Record.is) ∙ c.read-reading.ensures.0) (record-refuses _ _) in
-    record { result_value = w.0; out_after = w.1 }
+pub returns-in_err-t : goal.returns-in_err-t
+returns-in_err-t c =
+    let p = err_from_is_err_and c.from_residual.result c.from_residual.ensures.1 in
+    let w = returns-declined c.args.bytes.now c.args.order.now c.args.out.now _ (sym (ap refused_by c.in_err-t.was) ∙ c.read.ensures.0) (refuses _) in
+    rw (p.1, p.2) (record { result_value = w.0; out_after = w.1 })

@@ -1,18 +1,25 @@
+use Rattle.std.proofs.lemmas.Result.{err_from_is_err_and}
+use Rattle.block.specs.Reading.{table_of}
+use Rattle.refusals.specs.Refusals.{refused_by}
+use Rattle.refusals.proofs.LineLaws.{refuses}
 use Rattle.bench.proofs.EntryLaws.{table-read, small-read, rules-declined, rules-ruled}
 use Rattle.table.specs.Counts.{Small}
-use Rattle.refusals.specs.Refusals.{refusal_of}
-use Rattle.refusals.proofs.LineLaws.{line-refuses, record-refuses}
 use mathlib.Core.Path.{ap, sym, subst, ◌∙◌}
 use Rattle.bench.proofs.rules.Goals as goal
 
 pub pair-requires : goal.pair-requires
-pair-requires c = subst Small (sym (c.read-reading.ensures.1 ∙ table-read _ (sym c.read-reading.ensures.0 ∙ ap refusal_of c.in-None.is))) (small-read _ (sym c.read-reading.ensures.0 ∙ ap refusal_of c.in-None.is))
+pair-requires c =
+    let ok = sym c.read.ensures.0 ∙ ap refused_by c.in_ok-t.was in
+    let e = sym (ap table_of c.in_ok-t.was) ∙ c.read.ensures.1 ∙ table-read _ ok in
+    subst Small (sym e) (small-read _ ok)
 
-pub returns-in-None : goal.returns-in-None
-returns-in-None c = rules-ruled _ _ _ _ _ _ (sym c.read-reading.ensures.0 ∙ ap refusal_of c.in-None.is) (c.read-reading.ensures.1 ∙ table-read _ (sym c.read-reading.ensures.0 ∙ ap refusal_of c.in-None.is)) c.pair.ensures
+pub returns : goal.returns
+returns c =
+    let ok = sym c.read.ensures.0 ∙ ap refused_by c.in_ok-t.was in
+    let e = sym (ap table_of c.in_ok-t.was) ∙ c.read.ensures.1 ∙ table-read _ ok in
+    rules-ruled _ _ _ _ _ _ ok e c.pair.ensures
 
-pub returns-in-Line : goal.returns-in-Line
-returns-in-Line c = rules-declined _ _ _ _ _ (sym (ap refusal_of c.in-Line.is) ∙ c.read-reading.ensures.0) (line-refuses _)
-
-pub returns-in-Record : goal.returns-in-Record
-returns-in-Record c = rules-declined _ _ _ _ _ (sym (ap refusal_of c.in-Record.is) ∙ c.read-reading.ensures.0) (record-refuses _ _)
+pub returns-in_err-t : goal.returns-in_err-t
+returns-in_err-t c =
+    let p = err_from_is_err_and c.from_residual.result c.from_residual.ensures.1 in
+    rw (p.1, p.2) (rules-declined _ _ _ _ _ (sym (ap refused_by c.in_err-t.was) ∙ c.read.ensures.0) (refuses _))

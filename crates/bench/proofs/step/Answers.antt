@@ -1,21 +1,27 @@
+use Rattle.std.proofs.lemmas.Result.{err_from_is_err_and}
+use Rattle.block.specs.Reading.{table_of}
+use Rattle.refusals.specs.Refusals.{refused_by}
+use Rattle.refusals.proofs.LineLaws.{refuses}
 use Rattle.bench.proofs.EntryLaws.{table-read, small-read, tso-read, step-declined, step-answered}
 use Rattle.table.specs.declared.Table.{Table}
 use Rattle.table.specs.Counts.{Small}
 use Rattle.steps.specs.Replies.{IfTso}
-use Rattle.refusals.specs.Refusals.{refusal_of}
-use Rattle.refusals.proofs.LineLaws.{line-refuses, record-refuses}
 use mathlib.Core.Path.{ap, sym, subst, ◌∙◌}
 use Rattle.bench.proofs.step.Goals as goal
 
 pub answer-requires : goal.answer-requires
-answer-requires c = let ok = sym c.read-reading.ensures.0 ∙ ap refusal_of c.in-None.is in
-    subst (λ (t : Table). Small t × IfTso t) (sym (c.read-reading.ensures.1 ∙ table-read _ ok)) (small-read _ ok, tso-read _ ok)
+answer-requires c =
+    let ok = sym c.read.ensures.0 ∙ ap refused_by c.in_ok-t.was in
+    let e = sym (ap table_of c.in_ok-t.was) ∙ c.read.ensures.1 ∙ table-read _ ok in
+    subst (λ (t : Table). Small t × IfTso t) (sym e) (small-read _ ok, tso-read _ ok)
 
-pub returns-in-None : goal.returns-in-None
-returns-in-None c = step-answered _ _ _ _ _ (sym c.read-reading.ensures.0 ∙ ap refusal_of c.in-None.is) (c.read-reading.ensures.1 ∙ table-read _ (sym c.read-reading.ensures.0 ∙ ap refusal_of c.in-None.is)) c.answer.ensures
+pub returns : goal.returns
+returns c =
+    let ok = sym c.read.ensures.0 ∙ ap refused_by c.in_ok-t.was in
+    let e = sym (ap table_of c.in_ok-t.was) ∙ c.read.ensures.1 ∙ table-read _ ok in
+    step-answered _ _ _ _ _ ok e c.answer.ensures
 
-pub returns-in-Line : goal.returns-in-Line
-returns-in-Line c = step-declined _ _ _ _ (sym (ap refusal_of c.in-Line.is) ∙ c.read-reading.ensures.0) (line-refuses _)
-
-pub returns-in-Record : goal.returns-in-Record
-returns-in-Record c = step-declined _ _ _ _ (sym (ap refusal_of c.in-Record.is) ∙ c.read-reading.ensures.0) (record-refuses _ _)
+pub returns-in_err-t : goal.returns-in_err-t
+returns-in_err-t c =
+    let p = err_from_is_err_and c.from_residual.result c.from_residual.ensures.1 in
+    rw (p.1, p.2) (step-declined _ _ _ _ (sym (ap refused_by c.in_err-t.was) ∙ c.read.ensures.0) (refuses _))

@@ -12,5 +12,5 @@ returns-then-block-eq0 c = let w = none-there c.args.suite.now c.args.k _ _ (ap 
     record { word_value = w.0; offset_value = w.1.0; length_value = w.1.1 }
 
 pub returns-else-block-eq0 : goal.returns-else-block-eq0
-returns-else-block-eq0 c = let w = some-there c.args.suite.now c.args.k _ _ (ap length c.part-block.ensures) (omega (arith, c.if-block-eq0.false)) c.refusal_word-else-block-eq0.ensures in
+returns-else-block-eq0 c = let w = some-there c.args.suite.now c.args.k _ _ (ap length c.part-block.ensures) (omega (arith, c.if-block-eq0.false)) c.good_word.ensures in
     record { word_value = w.0; offset_value = w.1.0; length_value = w.1.1 }

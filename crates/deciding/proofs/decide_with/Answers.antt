@@ -1,5 +1,5 @@
 use mathlib.Core.Path.{refl, sym, ◌∙◌}
-use Rattle.deciding.proofs.ReplyLaws.{long-enough, decides-short, decides-long, memo-free}
+use Rattle.deciding.proofs.ReplyLaws.{long-enough, decides-short, decides-long}
 use Rattle.deciding.proofs.decide_with.Goals as goal
 
 pub returns-then-is_short : goal.returns-then-is_short
@@ -13,4 +13,4 @@ decide_by-requires c = (
 )
 
 pub returns : goal.returns
-returns c = let r = c.decide_by.ensures in record { decides = decides-long c.args.t c.args.start.now c.args.out.now _ _ (sym c.is_short.ensures ∙ c.if-is_short.false) r; memo_after = memo-free _ _ _ _ _ c.decide_by.result r }
+returns c = let r = c.decide_by.ensures in record { decides = decides-long c.args.t c.args.start.now c.args.out.now _ _ (sym c.is_short.ensures ∙ c.if-is_short.false) r; memo_after = tt }

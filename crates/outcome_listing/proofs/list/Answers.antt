@@ -1,6 +1,7 @@
 use native.Mathlib.Omega.{arith}
 use mathlib.Core.Path.{◌≡◌, sym, ap, ◌∙◌}
 use mathlib.Core.List.{[]}
+use Rattle.std.specs.Prelude.{Ok}
 use Rattle.event_sets.specs.declared.Sets.{Sets}
 use Rattle.outcomes.specs.Outcomes.{outcome_length}
 use Rattle.outcome_listing.specs.Replies.{previous_wrong}
@@ -40,6 +41,6 @@ deliver-requires c = let g = c.gather_of-gathered.ensures.within in
 pub returns : goal.returns
 returns c = let g = c.gather_of-gathered in
     let w = listing-replied c.args.t c.args.most c.args.previous.now c.args.out.now c.args.allowance (sym (wrong (goal.at.returns c).After-is_no_outcome) ∙ c.if-is_no_outcome.false) (omega (arith, c.if-out-width.false, width (goal.at.returns c).After-is_no_outcome)) c.if-allowance-gt-ALLOWANCE.false _
-    (listing-is c.args.t _ _ _ _ _ _ g.result _ (width (goal.at.returns c).After-is_no_outcome) (rw c.from-width.ensures at c.min.ensures) g.ensures.gathers) c.deliver.result _
+    (listing-is c.args.t _ _ _ _ _ _ g.result _ (width (goal.at.returns c).After-is_no_outcome) (rw c.from-width.ensures at c.min.ensures) g.ensures.gathers) (Ok c.deliver.result) _
     (c.deliver.ensures.out_after, (c.deliver.ensures.out_after_2, c.deliver.ensures.result_value)) in
     record { out_after = w.0; out_after_2 = w.1.0; result_value = w.1.1 }

@@ -2,7 +2,7 @@ use Prim.Native.Nat.{◌≤◌}
 use mathlib.Core.Path.{subst}
 use lib.ListN.{length}
 use lib.Seq.{length-take-le}
-use Rattle.search.specs.declared.Reply.TheVariants.{Answered}
+use Rattle.std.specs.Prelude.{Ok}
 use Rattle.search.specs.Replies.{length_of}
 use mathlib.Core.Path.{sym, ap}
 use Rattle.witness_walk.specs.declared.Ending.{Ending}
@@ -13,7 +13,7 @@ use Rattle.suite.proofs.ended.Goals as goal
 
 pub slice_bounds-list-end : goal.slice_bounds-list-end
 slice_bounds-list-end c = sym (length-take-le c.in-Found.len c.args.answer.now
-    (subst (λ (o : Ending). length_of (Answered o) ≤ length c.args.answer.now) c.in-Found.is c.requires))
+    (subst (λ (o : Ending). length_of (Ok o) ≤ length c.args.answer.now) c.in-Found.is c.requires))
 
 pub returns-in-Found : goal.returns-in-Found
 returns-in-Found c = same_text _ _ (sym (ap (λ (o : Ending). answer_text (answer_of o c.args.answer.now)) c.in-Found.is))

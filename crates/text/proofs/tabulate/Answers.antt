@@ -1,4 +1,3 @@
-use mathlib.Core.Path.{refl}
 use native.Mathlib.Omega.{arith}
 use lib.Dec.{ltb}
 use borrow.Author.Tests.{ltb-false}
@@ -9,11 +8,11 @@ use Rattle.text.proofs.TableLaws.{count-over, fields-over, table-made}
 use Rattle.text.proofs.tabulate.Goals as goal
 
 pub returns-then-count-gt-EVENTS : goal.returns-then-count-gt-EVENTS
-returns-then-count-gt-EVENTS c = judged-5 _ _ _ _ _ c.refused.ensures refl (count-over _ _ _ _ c.if-count-gt-EVENTS.true)
+returns-then-count-gt-EVENTS c = judged-5 _ _ _ (count-over _ _ _ _ c.if-count-gt-EVENTS.true)
 
 pub returns-then-fields-locations : goal.returns-then-fields-locations
 returns-then-fields-locations c = let f = c.least-fields.ensures in
-    judged-5 _ _ _ _ _ c.refused-then-fields-locations.ensures refl
+    judged-5 _ _ _
     (fields-over _ _ _ _ _ _ _ f.harts_value c.larger-locations.ensures f.locations_value c.if-fields-locations.true)
 
 pub overflow_cast-t : goal.overflow_cast-t

@@ -5,7 +5,6 @@ use Rattle.table.specs.declared.EventNo.{EventNo}
 use Rattle.table.specs.declared.LocationNo.{LocationNo}
 use Rattle.table.specs.declared.Table.{Table}
 use Rattle.model.specs.Verdict.{Verdict, verdict}
-use Rattle.lists.specs.Reply.{answered}
 use Rattle.verdict.proofs.JudgeLaws.{at_pair, at_load, at-atomicity, at_read, at-final}
 use Rattle.verdict.proofs.JudgeLaws.{past-pair, past-load, past-atomicity, past-read, past-final}
 use Rattle.verdict.proofs.JudgeLaws.{load_line, atomicity_line, read_line, final_line}
@@ -36,24 +35,24 @@ pub rule_set-set-requires : goal.rule_set-set-requires
 rule_set-set-requires c = let found = c.in-Some.ensures in (found.below, found.within, search rules, search rules)
 
 pub returns-in-Some : goal.returns-in-Some
-returns-in-Some c = ap answered (at_pair _ _ _ _ _ _ c.in-Some.ensures c.rule_set-set.ensures)
+returns-in-Some c = at_pair _ _ _ _ _ _ c.in-Some.ensures c.rule_set-set.ensures
 
 pub returns-in-Some-lowest_load_value : goal.returns-in-Some-lowest_load_value
 returns-in-Some-lowest_load_value c = let p = goal.at.returns-in-Some-lowest_load_value c in
     let found = c.in-Some-lowest_load_value.ensures in
-    ap answered (skip-1 p.In_default _ (at_load _ _ _ _ found.0 (ap (λ (r : EventNo). r.0) found.1)))
+    skip-1 p.In_default _ (at_load _ _ _ _ found.0 (ap (λ (r : EventNo). r.0) found.1))
 
 pub returns-in-Some-lowest_lr : goal.returns-in-Some-lowest_lr
 returns-in-Some-lowest_lr c = let p = goal.at.returns-in-Some-lowest_lr c in
     let found = c.in-Some-lowest_lr.ensures in
-    ap answered (skip-2 p.In_default-lowest_load_value (skip-1 p.In_default) _
-    (at-atomicity _ _ _ _ _ found.0 (ap (λ (l : EventNo). l.0) found.1) c.atomicity_writer-w.ensures))
+    skip-2 p.In_default-lowest_load_value (skip-1 p.In_default) _
+    (at-atomicity _ _ _ _ _ found.0 (ap (λ (l : EventNo). l.0) found.1) c.atomicity_writer-w.ensures)
 
 pub returns-in-Some-lowest_value_read : goal.returns-in-Some-lowest_value_read
 returns-in-Some-lowest_value_read c = let p = goal.at.returns-in-Some-lowest_value_read c in
     let found = c.in-Some-lowest_value_read.ensures in
-    ap answered (skip-3 p.In_default-lowest_lr (skip-2 p.In_default-lowest_load_value (skip-1 p.In_default)) _
-    (at_read _ _ _ _ found.0 (ap (λ (r : EventNo). r.0) found.1)))
+    skip-3 p.In_default-lowest_lr (skip-2 p.In_default-lowest_load_value (skip-1 p.In_default)) _
+    (at_read _ _ _ _ found.0 (ap (λ (r : EventNo). r.0) found.1))
 
 pub lowest_final_value-requires : goal.lowest_final_value-requires
 lowest_final_value-requires c = c.requires.1
@@ -61,10 +60,10 @@ lowest_final_value-requires c = c.requires.1
 pub returns-in-Some-lowest_final_value : goal.returns-in-Some-lowest_final_value
 returns-in-Some-lowest_final_value c = let p = goal.at.returns-in-Some-lowest_final_value c in
     let found = c.in-Some-lowest_final_value.ensures in
-    ap answered (skip-4 p.In_default-lowest_value_read (skip-3 p.In_default-lowest_lr (skip-2 p.In_default-lowest_load_value (skip-1 p.In_default))) _
-    (at-final _ _ _ found.0 (ap (λ (x : LocationNo). x.0) found.1)))
+    skip-4 p.In_default-lowest_value_read (skip-3 p.In_default-lowest_lr (skip-2 p.In_default-lowest_load_value (skip-1 p.In_default))) _
+    (at-final _ _ _ found.0 (ap (λ (x : LocationNo). x.0) found.1))
 
 pub returns : goal.returns
 returns c = let p = goal.at.returns c in
-    ap answered (skip-4 p.In_default-lowest_value_read (skip-3 p.In_default-lowest_lr (skip-2 p.In_default-lowest_load_value (skip-1 p.In_default))) _
-    (past-final _ _ c.in_default-lowest_final_value.ensures))
+    skip-4 p.In_default-lowest_value_read (skip-3 p.In_default-lowest_lr (skip-2 p.In_default-lowest_load_value (skip-1 p.In_default))) _
+    (past-final _ _ c.in_default-lowest_final_value.ensures)

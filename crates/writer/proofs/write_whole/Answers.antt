@@ -1,23 +1,23 @@
 use mathlib.Core.Path.{refl, sym, ap, ◌∙◌}
+use Rattle.std.proofs.lemmas.Result.{err_from_is_err_and}
 use Rattle.refusals.specs.TableLines.{table_lines}
-use Rattle.refusals.specs.Refusals.{refusal_of}
+use Rattle.refusals.specs.Refusals.{refused_by}
+use Rattle.refusals.proofs.LineLaws.{refuses}
+use Rattle.refusals.proofs.PassedLaws.{unless-refused}
+use Rattle.encode.specs.Encoded.{encoded}
 use Rattle.writer.proofs.WritingLaws.{writes-whole}
 use Rattle.writer.proofs.write_whole.Goals as goal
 
-pub returns-in-None : goal.returns-in-None
+pub returns : goal.returns
 unfolding table_lines
-returns-in-None c = let a = c.args in
-    let w = writes-whole a.t a.out.now _ c.copy_from_slice.new.self c.requires (sym (ap refusal_of c.in-None.is) ∙ c.refuse-refusal.ensures) (c.copy_from_slice.ensures.after ∙ c.encode.ensures) in
+returns c = let a = c.args in
+    let w = writes-whole a.t a.out.now _ c.copy_from_slice.new.self c.requires (sym (ap refused_by c.in_ok-refuse.was) ∙ c.refuse.ensures) (c.copy_from_slice.ensures.after ∙ c.encode.ensures) in
     record { result_value = w.0; out_after = w.1 }
 
-pub returns-in-Line : goal.returns-in-Line
+pub returns-in_err-refuse : goal.returns-in_err-refuse
 unfolding table_lines
-returns-in-Line c = let a = c.args in
-    let w = writes-whole a.t a.out.now _ a.out.now c.requires (sym (ap refusal_of c.in-Line.is) ∙ c.refuse-refusal.ensures) refl in
-    record { result_value = w.0; out_after = w.1 }
-
-pub returns-in-Record : goal.returns-in-Record
-unfolding table_lines
-returns-in-Record c = let a = c.args in
-    let w = writes-whole a.t a.out.now _ a.out.now c.requires (sym (ap refusal_of c.in-Record.is) ∙ c.refuse-refusal.ensures) refl in
-    record { result_value = w.0; out_after = w.1 }
+returns-in_err-refuse c = let a = c.args in
+    let p = err_from_is_err_and c.from_residual.result c.from_residual.ensures.1 in
+    let w = writes-whole a.t a.out.now _ a.out.now c.requires (sym (ap refused_by c.in_err-refuse.was) ∙ c.refuse.ensures)
+    (sym (unless-refused _ (encoded a.t) a.out.now (refuses _))) in
+    rw (p.1, p.2) (record { result_value = w.0; out_after = w.1 })
