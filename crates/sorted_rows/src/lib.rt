@@ -14,11 +14,18 @@ pub const MOST: usize = 64;
 pub const PLACES: usize = ROW * MOST;
 
 // Whether `a` comes before `b`.
-#[tactic(auto, using(crate::proofs::CompareLaws::lt_less))]
 fn comes_before(a: &[u16], b: &[u16]) -> bool
     ensures { result ≡ less a.now b.now }
 {
-    a < b
+    for k in 0..a.len() {
+        if b.len() <= k {
+            return false;
+        }
+        if a[k] != b[k] {
+            return a[k] < b[k];
+        }
+    }
+    a.len() < b.len()
 }
 
 // Whether the first `width` values come after the previous ones.
