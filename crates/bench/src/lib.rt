@@ -3,7 +3,7 @@
 
 ghost use Rattle.std.specs.Prelude.{◌≤◌, ◌≡◌};
 ghost use Rattle.refusals.specs.Refusals.{refused_by};
-ghost use Rattle.block.specs.Reading.{Reads, table_of};
+ghost use Rattle.block.specs.Reading.{read_refusal, read_table, table_of};
 ghost use Rattle.writer.specs.Writing.{write_refusal, written_block};
 ghost use Rattle.suite_part.specs.Part.{block_of, block_count};
 ghost use Rattle.suite_walk.specs.Tests.{test_of, test_length_at, next_block};
@@ -36,7 +36,7 @@ use witness_walk::Ending;
 
 // Reading a test: refusals 1 to 11 and 21, and the table.
 pub fn read(bytes: &[u8]) -> Result<Table, Refusal>
-    ensures { Reads bytes.now result }
+    ensures { (refused_by result ≡ read_refusal bytes.now) × (table_of result ≡ read_table bytes.now) }
 {
     block::read(bytes)
 }
@@ -157,8 +157,8 @@ pub fn search(bytes: &[u8], start: &[u8], out: &mut [u8], allowance: u64) -> Res
     ensures out_after_2 { out.new ≡ search_buffer bytes.now start.now out.old allowance }
     ensures result_value { length_of result ≡ prefix_length (search_reply bytes.now start.now out.old allowance) }
 {
-    let t = block::read(bytes)?;
-    search::search(t, start, out, allowance)
+    let test = block::read(bytes)?;
+    search::search(test, start, out, allowance)
 }
 
 // One search call by the second engine, which gives up a prefix as soon as a value differs from the stated one.
@@ -242,7 +242,7 @@ pub fn search_text(
     ensures result_value { text_length_of result ≡ prefix_length (text_reply text.now start.now out.old allowance) }
 {
     let mut words = [0u32; condition_reader::WORDS];
-    let reading = text::read(text, &mut words)?;
-    let ending = search::search_for(reading.table, &words[..reading.len], start, out, allowance)?;
+    let test = text::read(text, &mut words)?;
+    let ending = search::search_for(test.table, &words[..test.len], start, out, allowance)?;
     Ok(ending)
 }

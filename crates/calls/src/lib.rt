@@ -6,7 +6,7 @@ ghost use Rattle.std.specs.Prelude.{◌≤◌, length};
 use console::Line;
 
 // A call that lends the test or the suite of those after it.
-const LEND: u8 = b'B';
+pub const LEND: u8 = b'B';
 
 // No test of a stream is longer.
 pub const TEST: usize = 2048;
@@ -68,7 +68,7 @@ pub fn answer<'a>(rt: &HostRuntime, buffer: &'a mut [u8; LIST]) -> &'a mut [u8]
 }
 
 // Reads a test or a suite, a length of two bytes and that many bytes; answers how many came.
-fn frame(rt: &HostRuntime, buffer: &mut [u8]) -> usize {
+pub fn frame(rt: &HostRuntime, buffer: &mut [u8]) -> usize {
     let n = usize::from(console::word(rt));
     console::read(rt, buffer, n)
 }

@@ -40,7 +40,7 @@ pub extern "C" fn ct_table_of(block: &[u8]) -> Table
     ensures { result ≡ read_table block.now }
 {
     match bench::read(block) {
-        Ok(table) => table,
+        Ok(t) => t,
         Err(_) => block::no_table(),
     }
 }

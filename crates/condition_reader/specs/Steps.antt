@@ -74,6 +74,11 @@ Goes s before after reader c (Ok r) =
     × (r.at ≤ length s) × (4 * r.len + c.at ≤ r.at + 4 * c.len)
 Goes s before after reader c (Err b) = Broke s (reader (drop c.at s)) b
 
+-- the same from a step or a breach: a breach, and the words, stay as they are
+abbrev pub GoesOn : (s before after : List ℕ) (reader : List ℕ → Read Condition) → Result Step Breach → Result Step Breach → Type 0
+GoesOn s before after reader (Ok c) r = Goes s before after reader c r
+GoesOn s before after reader (Err b) r = (r ≡ Err b) × (after ≡ before)
+
 -- what a condition begins with, by its first byte
 abbrev pub letter_of : ℕ → Opening
 letter_of b =

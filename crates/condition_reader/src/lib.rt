@@ -1,11 +1,11 @@
 // Reads a condition into words that can be run one after the other, by recursion: the depth that remains falls at each call.
 #![tactic(auto)]
 
-ghost use Rattle.std.specs.Prelude.{◌+◌, ◌≤◌, ◌<◌, ◌≡◌, [], ◌∷◌, length, drop, set};
+ghost use Rattle.std.specs.Prelude.{◌+◌, ◌≤◌, ◌<◌, ◌≡◌, [], ◌∷◌, IfOk, length, drop, set};
 ghost use Rattle.text_format.specs.Condition.{max_number, max_value};
 ghost use Rattle.text_format.specs.Reading.{condition};
 ghost use Rattle.condition_reader.specs.Words.{atom_of, code, skip_word, joint_node, max_words};
-ghost use Rattle.condition_reader.specs.Steps.{NumberSays, FoundSays, AtomSays, JointSays, Room, Goes, Skips, lettered, opening_of};
+ghost use Rattle.condition_reader.specs.Steps.{NumberSays, FoundSays, AtomSays, JointSays, Room, Goes, GoesOn, Skips, lettered, opening_of};
 
 // Room for the words of any condition: each takes four bytes of a text or more.
 pub const WORDS: usize = 512;
@@ -210,8 +210,8 @@ fn joint_word(and: bool, n: usize) -> u32
     kind + 256 * (n as u32)
 }
 
-// A condition in which `depth` levels may still begin.
-pub fn read_condition(text: &[u8], step: Step, depth: u8, words: &mut [u32]) -> Result<Step, Breach>
+// A condition at a step, in which `depth` levels may still begin.
+fn condition_at(text: &[u8], step: Step, depth: u8, words: &mut [u32]) -> Result<Step, Breach>
     requires { Room text.now words.old step }
     ensures { Goes text.now words.old words.new (condition depth) step result }
 {
@@ -225,7 +225,7 @@ pub fn read_condition(text: &[u8], step: Step, depth: u8, words: &mut [u32]) -> 
                 return Err(Breach::TooDeep(step.at));
             }
             let word = skip(text, step, b"not ")?;
-            let inner = read_condition(text, word, depth - 1, words)?;
+            let inner = condition_at(text, word, depth - 1, words)?;
             Ok(push(words, inner, NOT))
         }
         Opening::Bracket => {
@@ -233,14 +233,27 @@ pub fn read_condition(text: &[u8], step: Step, depth: u8, words: &mut [u32]) -> 
                 return Err(Breach::TooDeep(step.at));
             }
             let open = skip(text, step, b"( ")?;
-            let left = read_condition(text, open, depth - 1, words)?;
+            let left = condition_at(text, open, depth - 1, words)?;
             let joint = read_joint(text, left)?;
             let behind = push(words, joint.step, joint_word(joint.and, 0));
-            let right = read_condition(text, behind, depth - 1, words)?;
+            let right = condition_at(text, behind, depth - 1, words)?;
             let close = skip(text, right, b" )")?;
             let place = joint.step.len;
             words[place] = joint_word(joint.and, close.len - place - 1);
             Ok(close)
         }
     }
+}
+
+// The same from a step or from the first breach, which goes through unchanged.
+pub fn read_condition(
+    text: &[u8],
+    step: Result<Step, Breach>,
+    depth: u8,
+    words: &mut [u32],
+) -> Result<Step, Breach>
+    requires { IfOk step (Room text.now words.old) }
+    ensures { GoesOn text.now words.old words.new (condition depth) step result }
+{
+    condition_at(text, step?, depth, words)
 }

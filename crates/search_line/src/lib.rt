@@ -29,6 +29,18 @@ pub fn replied(line: Line, reply: Result<Ending, Refusal>) -> Line {
     }
 }
 
+// The start of the walk's next call, whose length it answers: what was written, or the start again.
+pub fn next_start(ending: Ending, answer: &[u8], start: &mut [u8], len: usize) -> usize {
+    match ending {
+        Ending::NoneLeft { .. } => len,
+        Ending::Found { len: n, .. } | Ending::Spent { len: n, .. } => {
+            let most = n.min(answer.len()).min(start.len());
+            start[..most].copy_from_slice(&answer[..most]);
+            n
+        }
+    }
+}
+
 // A call from the start that it is given.
 pub fn single<F: FnOnce(&[u8], &mut [u8]) -> Option<Ending>>(rt: &HostRuntime, search: F)
     requires { F.IsAlwaysCallable search }
@@ -64,12 +76,8 @@ impl Walk {
     {
         let mut answer = [PREFILL; LIST];
         let start = console::front(&self.start, self.len);
-        match search(start, calls::answer(rt, &mut answer)) {
-            Some(Ending::Found { len, .. } | Ending::Spent { len, .. }) => {
-                self.start = answer;
-                self.len = len;
-            }
-            _ => {}
+        if let Some(ending) = search(start, calls::answer(rt, &mut answer)) {
+            self.len = next_start(ending, &answer, &mut self.start, self.len);
         }
     }
 }

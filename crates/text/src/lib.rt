@@ -96,7 +96,7 @@ fn read_outcome(text: &[u8], from: usize, words: &mut [u32]) -> Result<usize, Br
 {
     let start = Step { at: from, len: 0 };
     let kept = &mut words[..condition_reader::WORDS];
-    let step = condition_reader::read_condition(text, start, LEVELS, kept)?;
+    let step = condition_reader::read_condition(text, Ok(start), LEVELS, kept)?;
     read_end(text, step.at)?;
     Ok(step.len)
 }

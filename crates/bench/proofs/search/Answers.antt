@@ -10,20 +10,20 @@ use Rattle.bench.proofs.search.Goals as goal
 
 pub search-requires : goal.search-requires
 search-requires c =
-    let ok = sym c.read.ensures.0 ∙ ap refused_by c.in_ok-t.was in
-    let e = sym (ap table_of c.in_ok-t.was) ∙ c.read.ensures.1 ∙ table-read _ ok in
+    let ok = sym c.read.ensures.0 ∙ ap refused_by c.in_ok-test.was in
+    let e = sym (ap table_of c.in_ok-test.was) ∙ c.read.ensures.1 ∙ table-read _ ok in
     subst GoodTable (sym e) (good-read _ ok)
 
 pub returns : goal.returns
 returns c =
-    let ok = sym c.read.ensures.0 ∙ ap refused_by c.in_ok-t.was in
-    let e = sym (ap table_of c.in_ok-t.was) ∙ c.read.ensures.1 ∙ table-read _ ok in
+    let ok = sym c.read.ensures.0 ∙ ap refused_by c.in_ok-test.was in
+    let e = sym (ap table_of c.in_ok-test.was) ∙ c.read.ensures.1 ∙ table-read _ ok in
     let s = c.search.ensures in
     let w = block-answered clean c.args.bytes.now c.args.start.now c.args.out.now c.args.allowance _ _ _ _ ok e (s.out_after, (s.out_after_2, s.result_value)) in
     record { out_after = w.0; out_after_2 = w.1.0; result_value = w.1.1 }
 
-pub returns-in_err-t : goal.returns-in_err-t
-returns-in_err-t c =
+pub returns-in_err-test : goal.returns-in_err-test
+returns-in_err-test c =
     let p = err_from_is_err_and c.from_residual.result c.from_residual.ensures.1 in
-    let w = block-declined clean c.args.bytes.now c.args.start.now c.args.out.now c.args.allowance _ (sym (ap refused_by c.in_err-t.was) ∙ c.read.ensures.0) (refuses _) in
+    let w = block-declined clean c.args.bytes.now c.args.start.now c.args.out.now c.args.allowance _ (sym (ap refused_by c.in_err-test.was) ∙ c.read.ensures.0) (refuses _) in
     rw (p.1, p.2) (record { out_after = w.0; out_after_2 = w.1.0; result_value = w.1.1 })

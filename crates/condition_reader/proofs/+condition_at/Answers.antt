@@ -9,8 +9,8 @@ use Rattle.text_format.specs.Reading.{condition, negation, bracket}
 use Rattle.condition_reader.specs.Steps.{Goes, lettered}
 use Rattle.condition_reader.proofs.OpeningLaws.{begins-other, begins-returns, begins-ends, deep-not, deep-bracket, begins-not, begins-bracket}
 use Rattle.condition_reader.proofs.ConditionLaws.{same-goes, not-word, not-inner, not-goes, bracket-open, bracket-left, bracket-joint, bracket-right, bracket-close, right-count, bracket-goes}
-use Rattle.condition_reader.proofs.+read_condition.Goals as goal
-use Rattle.condition_reader.proofs.+read_condition.Goals.{In_ok-close-in-Bracket}
+use Rattle.condition_reader.proofs.+condition_at.Goals as goal
+use Rattle.condition_reader.proofs.+condition_at.Goals.{In_ok-close-in-Bracket}
 
 pub returns-in-Other : goal.returns-in-Other
 returns-in-Other t c = (begins-other _ _ (sym c.in-Other.is ∙ c.begins-first.ensures), c.requires.inside)
@@ -50,7 +50,7 @@ returns-in_err-inner-in-Not t c =
     let b = begins-not (drop a.step.at a.text.now) a.depth c.if-depth-eq0.false (sym c.in-Not.is ∙ c.begins-first.ensures) in
     let p = c.in_ok-word-in-Not.ensures in
     let q = c.in_err-inner-in-Not.ensures in
-    let e : Goes a.text.now a.words.now c.read_condition.new.words (condition a.depth) a.step (Err c.in_err-inner-in-Not.field-0.0) =
+    let e : Goes a.text.now a.words.now c.condition_at.new.words (condition a.depth) a.step (Err c.in_err-inner-in-Not.field-0.0) =
     (b ∙ not-inner _ _ _ p.0.0 _ _ q.0, q.1) in
     search rules
 
@@ -60,8 +60,8 @@ returns-in_ok-inner-in-Not t c =
     let b = begins-not (drop a.step.at a.text.now) a.depth c.if-depth-eq0.false (sym c.in-Not.is ∙ c.begins-first.ensures) in
     let inner = condition (a.depth - 1) in
     same-goes a.text.now a.words.now c.push.new.words (condition a.depth) (negation inner) a.step (Ok c.push.result) b
-    (not-goes a.text.now a.words.now c.read_condition.new.words inner a.step c.in_ok-word-in-Not.word c.in_ok-inner-in-Not.inner c.requires
-    c.read_condition.auto.words c.in_ok-inner-in-Not.ensures c.in_ok-word-in-Not.ensures c.push.new.words c.push.result c.push.ensures)
+    (not-goes a.text.now a.words.now c.condition_at.new.words inner a.step c.in_ok-word-in-Not.word c.in_ok-inner-in-Not.inner c.requires
+    c.condition_at.auto.words c.in_ok-inner-in-Not.ensures c.in_ok-word-in-Not.ensures c.push.new.words c.push.result c.push.ensures)
 
 pub returns-in_err-open-in-Bracket : goal.returns-in_err-open-in-Bracket
 returns-in_err-open-in-Bracket t c =
@@ -78,7 +78,7 @@ returns-in_err-left-in-Bracket t c =
     let b = begins-bracket (drop a.step.at a.text.now) a.depth c.if-depth-eq0-2.false (sym c.in-Bracket.is ∙ c.begins-first.ensures) in
     let o = c.in_ok-open-in-Bracket.ensures in
     let q = c.in_err-left-in-Bracket.ensures in
-    let e : Goes a.text.now a.words.now c.read_condition-in-Bracket.new.words (condition a.depth) a.step
+    let e : Goes a.text.now a.words.now c.condition_at-in-Bracket.new.words (condition a.depth) a.step
     (Err c.in_err-left-in-Bracket.field-0.0) =
     (b ∙ bracket-left _ _ _ o.0.0 _ _ q.0, q.1) in
     search rules
@@ -90,7 +90,7 @@ returns-in_err-joint-in-Bracket t c =
     let o = c.in_ok-open-in-Bracket.ensures in
     let l = c.in_ok-left-in-Bracket.ensures in
     let q = c.in_err-joint-in-Bracket.ensures in
-    let e : Goes a.text.now a.words.now c.read_condition-in-Bracket.new.words (condition a.depth) a.step
+    let e : Goes a.text.now a.words.now c.condition_at-in-Bracket.new.words (condition a.depth) a.step
     (Err c.in_err-joint-in-Bracket.field-0.0) =
     (b ∙ bracket-joint _ _ _ o.0.0 _ l.0 l.1 _ _ q.0, q.1) in
     search rules
@@ -104,7 +104,7 @@ returns-in_err-right-in-Bracket t c =
     let j = c.in_ok-joint-in-Bracket.ensures in
     let q = c.in_err-right-in-Bracket.ensures in
     let r = rw c.push-behind.ensures.1 at q.0 in
-    let e : Goes a.text.now a.words.now c.read_condition-in-Bracket-2.new.words (condition a.depth) a.step
+    let e : Goes a.text.now a.words.now c.condition_at-in-Bracket-2.new.words (condition a.depth) a.step
     (Err c.in_err-right-in-Bracket.field-0.0) =
     (b ∙ bracket-right _ _ _ o.0.0 _ l.0 l.1 _ _ j.0 _ _ r, q.1) in
     search rules
@@ -119,7 +119,7 @@ returns-in_err-close-in-Bracket t c =
     let r = c.in_ok-right-in-Bracket.ensures in
     let r' = rw c.push-behind.ensures.1 at r.1 in
     let q = c.in_err-close-in-Bracket.ensures in
-    let e : Goes a.text.now a.words.now c.read_condition-in-Bracket-2.new.words (condition a.depth) a.step
+    let e : Goes a.text.now a.words.now c.condition_at-in-Bracket-2.new.words (condition a.depth) a.step
     (Err c.in_err-close-in-Bracket.field-0.0) =
     (b ∙ bracket-close _ _ _ o.0.0 _ l.0 l.1 _ _ j.0 _ r.0 r' _ _ q.0, q.1) in
     search rules
@@ -129,9 +129,9 @@ counted : (t : ℕ) (c : In_ok-close-in-Bracket t) → c.in_ok-joint-in-Bracket.
 counted t c =
     let a = c.args in
     let inner = condition (a.depth - 1) in
-    let long = c.read_condition-in-Bracket.auto.words in
-    let long' = c.read_condition-in-Bracket-2.auto.words ∙ c.push-behind.auto.words ∙ long in
-    omega (arith, right-count a.text.now a.words.now c.read_condition-in-Bracket.new.words inner a.step c.in_ok-open-in-Bracket.open c.in_ok-left-in-Bracket.left c.requires long c.in_ok-left-in-Bracket.ensures c.in_ok-open-in-Bracket.ensures c.in_ok-joint-in-Bracket.joint c.in_ok-joint-in-Bracket.ensures c.push-behind.new.words c.read_condition-in-Bracket-2.new.words c.joint_word.result c.push-behind.result c.in_ok-right-in-Bracket.right c.in_ok-close-in-Bracket.close c.push-behind.ensures c.in_ok-right-in-Bracket.ensures c.in_ok-close-in-Bracket.ensures long')
+    let long = c.condition_at-in-Bracket.auto.words in
+    let long' = c.condition_at-in-Bracket-2.auto.words ∙ c.push-behind.auto.words ∙ long in
+    omega (arith, right-count a.text.now a.words.now c.condition_at-in-Bracket.new.words inner a.step c.in_ok-open-in-Bracket.open c.in_ok-left-in-Bracket.left c.requires long c.in_ok-left-in-Bracket.ensures c.in_ok-open-in-Bracket.ensures c.in_ok-joint-in-Bracket.joint c.in_ok-joint-in-Bracket.ensures c.push-behind.new.words c.condition_at-in-Bracket-2.new.words c.joint_word.result c.push-behind.result c.in_ok-right-in-Bracket.right c.in_ok-close-in-Bracket.close c.push-behind.ensures c.in_ok-right-in-Bracket.ensures c.in_ok-close-in-Bracket.ensures long')
 
 pub overflow_sub-close : goal.overflow_sub-close
 overflow_sub-close t c = omega (arith, counted t (goal.at.overflow_sub-close t c).In_ok-close-in-Bracket)
@@ -144,12 +144,12 @@ returns-in_ok-close-in-Bracket t c =
     let a = c.args in
     let b = begins-bracket (drop a.step.at a.text.now) a.depth c.if-depth-eq0-2.false (sym c.in-Bracket.is ∙ c.begins-first.ensures) in
     let inner = condition (a.depth - 1) in
-    let long = c.read_condition-in-Bracket.auto.words in
-    let long' = c.read_condition-in-Bracket-2.auto.words ∙ c.push-behind.auto.words ∙ long in
+    let long = c.condition_at-in-Bracket.auto.words in
+    let long' = c.condition_at-in-Bracket-2.auto.words ∙ c.push-behind.auto.words ∙ long in
     let j = c.in_ok-joint-in-Bracket.joint in
-    let end = c.read_condition-in-Bracket-2.new.words in
+    let end = c.condition_at-in-Bracket-2.new.words in
     let k = c.in_ok-close-in-Bracket.close in
     let after = set end j.step.len c.joint_word-in-Bracket.result in
     same-goes a.text.now a.words.now after (condition a.depth) (bracket inner) a.step (Ok k) b
-    (bracket-goes a.text.now a.words.now c.read_condition-in-Bracket.new.words inner a.step c.in_ok-open-in-Bracket.open c.in_ok-left-in-Bracket.left c.requires long c.in_ok-left-in-Bracket.ensures c.in_ok-open-in-Bracket.ensures j c.in_ok-joint-in-Bracket.ensures c.push-behind.new.words end c.joint_word.result c.push-behind.result c.in_ok-right-in-Bracket.right k c.push-behind.ensures c.in_ok-right-in-Bracket.ensures c.in_ok-close-in-Bracket.ensures long' after
+    (bracket-goes a.text.now a.words.now c.condition_at-in-Bracket.new.words inner a.step c.in_ok-open-in-Bracket.open c.in_ok-left-in-Bracket.left c.requires long c.in_ok-left-in-Bracket.ensures c.in_ok-open-in-Bracket.ensures j c.in_ok-joint-in-Bracket.ensures c.push-behind.new.words end c.joint_word.result c.push-behind.result c.in_ok-right-in-Bracket.right k c.push-behind.ensures c.in_ok-right-in-Bracket.ensures c.in_ok-close-in-Bracket.ensures long' after
     (ap (set end j.step.len) c.joint_word-in-Bracket.ensures))
